@@ -6,14 +6,19 @@ ghost use Rattle.td_plan.specs.code.Remembered.{AreAllAmong, AreAmong, AreAmongB
 ghost use Rattle.td_plan.specs.code.Remembered.{AreEachKept, AreEachRemembered, AreRemembered};
 ghost use Rattle.td_plan.specs.code.Remembered.{AreAllRemembered, AreRememberedInside};
 ghost use Rattle.td_plan.specs.code.Remembered.{AreRememberedInsideBoth, AreThreeRemembered};
-ghost use Rattle.td_plan.specs.code.Remembered.{IsKeptPart, IsRemembered, KeepsPart};
-ghost use Rattle.td_plan.specs.code.StepHeights.{step_height};
+ghost use Rattle.td_plan.specs.code.Remembered.{IsRemembered, KeepsPart};
 ghost use Rattle.td_plan.specs.code.StepViews.{step_view};
+ghost use Rattle.td_plan.specs.declared.plan.step.Step.TheVariants as variants;
 
-use crate::plan::step::Step;
+use crate::plan::step::{Dyadic, Monadic, Origin, Selector, Step};
 use std::alloc::{AllocError, Global};
 use std::mem;
+use td_group::aggregates::Agg;
 use td_tree::cause::Cause;
+use td_tree::expression::Attributes;
+use td_tree::name::Name;
+use td_tree::operator::Aggregate;
+use td_types::ty::Ty;
 
 // ---- the slots that steps name
 
@@ -156,19 +161,14 @@ fn keep_all(
     Ok(())
 }
 
-/// Becomes the part whose answer it keeps, which is to be found anew.
-fn become_part(step: &mut Step)
-    ensures view { step_view step.new ≡ step_view step.old }
-    ensures height { IsKeptPart step.old → step_height step.new < step_height step.old }
-{
-    let old = mem::replace(step, Step::Refused(Cause::NameUnknown));
-    *step = match old {
-        Step::Once { place: _, reach: _, part } => Box::into_inner(part),
-        other => other,
-    };
-}
-
 // ---- the walk
+
+/// A step whose parts are kept, and the slots that it names.
+#[derive(Drop)]
+struct NamedStep {
+    step: Step,
+    names: Vec<usize>,
+}
 
 /// Keeps the answers of the step's parts. It gives the slots that the step names.
 #[cycle(remember)]
@@ -176,35 +176,243 @@ fn remember(alloc: Global, places: &mut usize, step: &mut Step) -> Result<Vec<us
     ensures { IfOk result (λ names.
         IsRemembered places.old places.new names.items step.old step.new) }
 {
+    let old = mem::replace(step, Step::Refused(Cause::NameUnknown));
+    let named = named_step(alloc, places, old)?;
+    *step = named.step;
+    Ok(named.names)
+}
+
+/// The step with the parts whose answers are kept. A part that is kept already is found anew.
+#[cycle(remember)]
+fn named_step(alloc: Global, places: &mut usize, step: Step) -> Result<NamedStep, AllocError>
+    ensures { IfOk result (λ named.
+        IsRemembered places.old places.new named.names.items step named.step) }
+{
     match step {
-        Step::Constant(_) => Ok(Vec::new(alloc)),
-        Step::Refused(_) => Ok(Vec::new(alloc)),
-        Step::Relvar(_) => Ok(Vec::new(alloc)),
-        Step::Attribute { slot, place: _ } => one(alloc, *slot),
-        Step::LookUp(_, _, operand) => remember(alloc, places, operand),
-        Step::Monadic(_, operand) => remember(alloc, places, operand),
-        Step::Dyadic(left, _, right) => both(alloc, places, left, right),
-        Step::Select(_, parts) => all(alloc, places, parts),
-        Step::Restriction(operand, slot, body, _) => inside(alloc, places, operand, *slot, body),
-        Step::Extend(operand, _, slot, values) => {
-            all_inside(alloc, places, operand, *slot, values)
+        Step::Constant(v) => Ok(NamedStep { step: Step::Constant(v), names: Vec::new(alloc) }),
+        Step::Refused(cause) => Ok(NamedStep { step: Step::Refused(cause), names: Vec::new(alloc) }),
+        Step::Relvar(name) => Ok(NamedStep { step: Step::Relvar(name), names: Vec::new(alloc) }),
+        Step::Attribute { slot, place } => {
+            let names = one(alloc, slot)?;
+            Ok(NamedStep { step: Step::Attribute { slot, place }, names })
         }
-        Step::Aggregate(_, operand, slot, body) => inside(alloc, places, operand, *slot, body),
-        Step::SummarizePer(operand, per, _, _, slot, values) => {
-            all_inside_both(alloc, places, operand, per, *slot, values)
+        Step::LookUp(relvar, key, operand) => look_up(alloc, places, relvar, key, operand),
+        Step::Monadic(op, operand) => monadic(alloc, places, op, operand),
+        Step::Dyadic(left, op, right) => dyadic(alloc, places, left, op, right),
+        Step::Select(selector, parts) => select(alloc, places, selector, parts),
+        Step::Restriction(operand, slot, body, origin) => {
+            restriction(alloc, places, operand, slot, body, origin)
         }
-        Step::SummarizeBy(operand, _, _, _, slot, values) => {
-            all_inside(alloc, places, operand, *slot, values)
+        Step::Extend(operand, attributes, slot, values) => {
+            extend(alloc, places, operand, attributes, slot, values)
+        }
+        Step::Aggregate(op, operand, slot, body) => {
+            aggregate(alloc, places, op, operand, slot, body)
+        }
+        Step::SummarizePer(operand, per, attributes, aggregates, slot, values) => {
+            summarize_per(alloc, places, operand, per, attributes, aggregates, slot, values)
+        }
+        Step::SummarizeBy(operand, by, attributes, aggregates, slot, values) => {
+            summarize_by(alloc, places, operand, by, attributes, aggregates, slot, values)
         }
         Step::If(condition, consequent, alternative) => {
-            three(alloc, places, condition, consequent, alternative)
+            choice(alloc, places, condition, consequent, alternative)
         }
-        Step::Once { place: _, reach: _, part: _ } => {
-            become_part(step);
-            remember(alloc, places, step)
-        }
+        Step::Once { place: _, reach: _, part } => named_step(alloc, places, Box::into_inner(part)),
     }
 }
+
+// ---- each step with parts
+
+/// A look-up of what an operand gives.
+#[cycle(remember)]
+fn look_up(
+    alloc: Global,
+    places: &mut usize,
+    relvar: Name,
+    key: Vec<Name>,
+    operand: Box<Step>,
+) -> Result<NamedStep, AllocError>
+    ensures { IfOk result (λ named. IsRemembered places.old places.new named.names.items
+        (variants.LookUp relvar key operand) named.step) }
+{
+    let mut operand = operand;
+    let names = remember(alloc, places, &mut operand)?;
+    Ok(NamedStep { step: Step::LookUp(relvar, key, operand), names })
+}
+
+/// An operator of one operand.
+#[cycle(remember)]
+fn monadic(
+    alloc: Global,
+    places: &mut usize,
+    op: Monadic,
+    operand: Box<Step>,
+) -> Result<NamedStep, AllocError>
+    ensures { IfOk result (λ named. IsRemembered places.old places.new named.names.items
+        (variants.Monadic op operand) named.step) }
+{
+    let mut operand = operand;
+    let names = remember(alloc, places, &mut operand)?;
+    Ok(NamedStep { step: Step::Monadic(op, operand), names })
+}
+
+/// An operator between two operands.
+#[cycle(remember)]
+fn dyadic(
+    alloc: Global,
+    places: &mut usize,
+    left: Box<Step>,
+    op: Dyadic,
+    right: Box<Step>,
+) -> Result<NamedStep, AllocError>
+    ensures { IfOk result (λ named. IsRemembered places.old places.new named.names.items
+        (variants.Dyadic left op right) named.step) }
+{
+    let mut left = left;
+    let mut right = right;
+    let names = both(alloc, places, &mut left, &mut right)?;
+    Ok(NamedStep { step: Step::Dyadic(left, op, right), names })
+}
+
+/// What is made of parts.
+#[cycle(remember)]
+fn select(
+    alloc: Global,
+    places: &mut usize,
+    selector: Selector,
+    parts: Vec<Step>,
+) -> Result<NamedStep, AllocError>
+    ensures { IfOk result (λ named. IsRemembered places.old places.new named.names.items
+        (variants.Select selector parts) named.step) }
+{
+    let mut parts = parts;
+    let names = all(alloc, places, &mut parts)?;
+    Ok(NamedStep { step: Step::Select(selector, parts), names })
+}
+
+/// A restriction.
+#[cycle(remember)]
+fn restriction(
+    alloc: Global,
+    places: &mut usize,
+    operand: Box<Step>,
+    slot: usize,
+    body: Box<Step>,
+    origin: Origin,
+) -> Result<NamedStep, AllocError>
+    ensures { IfOk result (λ named. IsRemembered places.old places.new named.names.items
+        (variants.Restriction operand slot body origin) named.step) }
+{
+    let mut operand = operand;
+    let mut body = body;
+    let names = inside(alloc, places, &mut operand, slot, &mut body)?;
+    Ok(NamedStep { step: Step::Restriction(operand, slot, body, origin), names })
+}
+
+/// An extension.
+#[cycle(remember)]
+fn extend(
+    alloc: Global,
+    places: &mut usize,
+    operand: Box<Step>,
+    attributes: Vec<(Name, Ty)>,
+    slot: usize,
+    values: Vec<Step>,
+) -> Result<NamedStep, AllocError>
+    ensures { IfOk result (λ named. IsRemembered places.old places.new named.names.items
+        (variants.Extend operand attributes slot values) named.step) }
+{
+    let mut operand = operand;
+    let mut values = values;
+    let names = all_inside(alloc, places, &mut operand, slot, &mut values)?;
+    Ok(NamedStep { step: Step::Extend(operand, attributes, slot, values), names })
+}
+
+/// An aggregate.
+#[cycle(remember)]
+fn aggregate(
+    alloc: Global,
+    places: &mut usize,
+    op: Aggregate,
+    operand: Box<Step>,
+    slot: usize,
+    body: Box<Step>,
+) -> Result<NamedStep, AllocError>
+    ensures { IfOk result (λ named. IsRemembered places.old places.new named.names.items
+        (variants.Aggregate op operand slot body) named.step) }
+{
+    let mut operand = operand;
+    let mut body = body;
+    let names = inside(alloc, places, &mut operand, slot, &mut body)?;
+    Ok(NamedStep { step: Step::Aggregate(op, operand, slot, body), names })
+}
+
+/// A summary by the tuples of another operand.
+#[cycle(remember)]
+fn summarize_per(
+    alloc: Global,
+    places: &mut usize,
+    operand: Box<Step>,
+    per: Box<Step>,
+    attributes: Vec<(Name, Ty)>,
+    aggregates: Vec<Agg>,
+    slot: usize,
+    values: Vec<Step>,
+) -> Result<NamedStep, AllocError>
+    ensures { IfOk result (λ named. IsRemembered places.old places.new named.names.items
+        (variants.SummarizePer operand per attributes aggregates slot values) named.step) }
+{
+    let mut operand = operand;
+    let mut per = per;
+    let mut values = values;
+    let names = all_inside_both(alloc, places, &mut operand, &mut per, slot, &mut values)?;
+    let step = Step::SummarizePer(operand, per, attributes, aggregates, slot, values);
+    Ok(NamedStep { step, names })
+}
+
+/// A summary by attributes.
+#[cycle(remember)]
+fn summarize_by(
+    alloc: Global,
+    places: &mut usize,
+    operand: Box<Step>,
+    by: Attributes,
+    attributes: Vec<(Name, Ty)>,
+    aggregates: Vec<Agg>,
+    slot: usize,
+    values: Vec<Step>,
+) -> Result<NamedStep, AllocError>
+    ensures { IfOk result (λ named. IsRemembered places.old places.new named.names.items
+        (variants.SummarizeBy operand by attributes aggregates slot values) named.step) }
+{
+    let mut operand = operand;
+    let mut values = values;
+    let names = all_inside(alloc, places, &mut operand, slot, &mut values)?;
+    let step = Step::SummarizeBy(operand, by, attributes, aggregates, slot, values);
+    Ok(NamedStep { step, names })
+}
+
+/// A choice between two steps.
+#[cycle(remember)]
+fn choice(
+    alloc: Global,
+    places: &mut usize,
+    condition: Box<Step>,
+    consequent: Box<Step>,
+    alternative: Box<Step>,
+) -> Result<NamedStep, AllocError>
+    ensures { IfOk result (λ named. IsRemembered places.old places.new named.names.items
+        (variants.If condition consequent alternative) named.step) }
+{
+    let mut condition = condition;
+    let mut consequent = consequent;
+    let mut alternative = alternative;
+    let names = three(alloc, places, &mut condition, &mut consequent, &mut alternative)?;
+    Ok(NamedStep { step: Step::If(condition, consequent, alternative), names })
+}
+
+// ---- the parts of steps
 
 /// Keeps the answers of parts of two steps, and of the one that does not reach as far.
 #[cycle(remember)]
