@@ -8,17 +8,15 @@ ghost use Rattle.td_plan.specs.code.Remembered.{AreAllRemembered, AreRememberedI
 ghost use Rattle.td_plan.specs.code.Remembered.{AreRememberedInsideBoth, AreThreeRemembered};
 ghost use Rattle.td_plan.specs.code.Remembered.{IsRemembered, KeepsPart};
 ghost use Rattle.td_plan.specs.code.StepViews.{step_view};
-ghost use Rattle.td_plan.specs.declared.plan.step.Step.TheVariants as variants;
 
-use crate::plan::step::{Dyadic, Monadic, Origin, Selector, Step};
+mod nodes;
+
+use crate::making::remember::nodes::{aggregate, choice, dyadic, extend, look_up, monadic};
+use crate::making::remember::nodes::{restriction, select, summarize_by, summarize_per};
+use crate::plan::step::Step;
 use std::alloc::{AllocError, Global};
 use std::mem;
-use td_group::aggregates::Agg;
 use td_tree::cause::Cause;
-use td_tree::expression::Attributes;
-use td_tree::name::Name;
-use td_tree::operator::Aggregate;
-use td_types::ty::Ty;
 
 // ---- the slots that steps name
 
@@ -165,14 +163,18 @@ fn keep_all(
 
 /// A step whose parts are kept, and the slots that it names.
 #[derive(Drop)]
-struct NamedStep {
-    step: Step,
-    names: Vec<usize>,
+pub(crate) struct NamedStep {
+    pub(crate) step: Step,
+    pub(crate) names: Vec<usize>,
 }
 
 /// Keeps the answers of the step's parts. It gives the slots that the step names.
 #[cycle(remember)]
-fn remember(alloc: Global, places: &mut usize, step: &mut Step) -> Result<Vec<usize>, AllocError>
+pub(crate) fn remember(
+    alloc: Global,
+    places: &mut usize,
+    step: &mut Step,
+) -> Result<Vec<usize>, AllocError>
     ensures { IfOk result (λ names.
         IsRemembered places.old places.new names.items step.old step.new) }
 {
@@ -188,10 +190,11 @@ fn named_step(alloc: Global, places: &mut usize, step: Step) -> Result<NamedStep
     ensures { IfOk result (λ named.
         IsRemembered places.old places.new named.names.items step named.step) }
 {
+    let none = Vec::new(alloc);
     match step {
-        Step::Constant(v) => Ok(NamedStep { step: Step::Constant(v), names: Vec::new(alloc) }),
-        Step::Refused(cause) => Ok(NamedStep { step: Step::Refused(cause), names: Vec::new(alloc) }),
-        Step::Relvar(name) => Ok(NamedStep { step: Step::Relvar(name), names: Vec::new(alloc) }),
+        Step::Constant(value) => Ok(NamedStep { step: Step::Constant(value), names: none }),
+        Step::Refused(cause) => Ok(NamedStep { step: Step::Refused(cause), names: none }),
+        Step::Relvar(name) => Ok(NamedStep { step: Step::Relvar(name), names: none }),
         Step::Attribute { slot, place } => {
             let names = one(alloc, slot)?;
             Ok(NamedStep { step: Step::Attribute { slot, place }, names })
@@ -222,201 +225,11 @@ fn named_step(alloc: Global, places: &mut usize, step: Step) -> Result<NamedStep
     }
 }
 
-// ---- each step with parts
-
-/// A look-up of what an operand gives.
-#[cycle(remember)]
-fn look_up(
-    alloc: Global,
-    places: &mut usize,
-    relvar: Name,
-    key: Vec<Name>,
-    operand: Box<Step>,
-) -> Result<NamedStep, AllocError>
-    ensures { IfOk result (λ named. IsRemembered places.old places.new named.names.items
-        (variants.LookUp relvar key operand) named.step) }
-{
-    let mut operand = operand;
-    let names = remember(alloc, places, &mut operand)?;
-    Ok(NamedStep { step: Step::LookUp(relvar, key, operand), names })
-}
-
-/// An operator of one operand.
-#[cycle(remember)]
-fn monadic(
-    alloc: Global,
-    places: &mut usize,
-    op: Monadic,
-    operand: Box<Step>,
-) -> Result<NamedStep, AllocError>
-    ensures { IfOk result (λ named. IsRemembered places.old places.new named.names.items
-        (variants.Monadic op operand) named.step) }
-{
-    let mut operand = operand;
-    let names = remember(alloc, places, &mut operand)?;
-    Ok(NamedStep { step: Step::Monadic(op, operand), names })
-}
-
-/// An operator between two operands.
-#[cycle(remember)]
-fn dyadic(
-    alloc: Global,
-    places: &mut usize,
-    left: Box<Step>,
-    op: Dyadic,
-    right: Box<Step>,
-) -> Result<NamedStep, AllocError>
-    ensures { IfOk result (λ named. IsRemembered places.old places.new named.names.items
-        (variants.Dyadic left op right) named.step) }
-{
-    let mut left = left;
-    let mut right = right;
-    let names = both(alloc, places, &mut left, &mut right)?;
-    Ok(NamedStep { step: Step::Dyadic(left, op, right), names })
-}
-
-/// What is made of parts.
-#[cycle(remember)]
-fn select(
-    alloc: Global,
-    places: &mut usize,
-    selector: Selector,
-    parts: Vec<Step>,
-) -> Result<NamedStep, AllocError>
-    ensures { IfOk result (λ named. IsRemembered places.old places.new named.names.items
-        (variants.Select selector parts) named.step) }
-{
-    let mut parts = parts;
-    let names = all(alloc, places, &mut parts)?;
-    Ok(NamedStep { step: Step::Select(selector, parts), names })
-}
-
-/// A restriction.
-#[cycle(remember)]
-fn restriction(
-    alloc: Global,
-    places: &mut usize,
-    operand: Box<Step>,
-    slot: usize,
-    body: Box<Step>,
-    origin: Origin,
-) -> Result<NamedStep, AllocError>
-    ensures { IfOk result (λ named. IsRemembered places.old places.new named.names.items
-        (variants.Restriction operand slot body origin) named.step) }
-{
-    let mut operand = operand;
-    let mut body = body;
-    let names = inside(alloc, places, &mut operand, slot, &mut body)?;
-    Ok(NamedStep { step: Step::Restriction(operand, slot, body, origin), names })
-}
-
-/// An extension.
-#[cycle(remember)]
-fn extend(
-    alloc: Global,
-    places: &mut usize,
-    operand: Box<Step>,
-    attributes: Vec<(Name, Ty)>,
-    slot: usize,
-    values: Vec<Step>,
-) -> Result<NamedStep, AllocError>
-    ensures { IfOk result (λ named. IsRemembered places.old places.new named.names.items
-        (variants.Extend operand attributes slot values) named.step) }
-{
-    let mut operand = operand;
-    let mut values = values;
-    let names = all_inside(alloc, places, &mut operand, slot, &mut values)?;
-    Ok(NamedStep { step: Step::Extend(operand, attributes, slot, values), names })
-}
-
-/// An aggregate.
-#[cycle(remember)]
-fn aggregate(
-    alloc: Global,
-    places: &mut usize,
-    op: Aggregate,
-    operand: Box<Step>,
-    slot: usize,
-    body: Box<Step>,
-) -> Result<NamedStep, AllocError>
-    ensures { IfOk result (λ named. IsRemembered places.old places.new named.names.items
-        (variants.Aggregate op operand slot body) named.step) }
-{
-    let mut operand = operand;
-    let mut body = body;
-    let names = inside(alloc, places, &mut operand, slot, &mut body)?;
-    Ok(NamedStep { step: Step::Aggregate(op, operand, slot, body), names })
-}
-
-/// A summary by the tuples of another operand.
-#[cycle(remember)]
-fn summarize_per(
-    alloc: Global,
-    places: &mut usize,
-    operand: Box<Step>,
-    per: Box<Step>,
-    attributes: Vec<(Name, Ty)>,
-    aggregates: Vec<Agg>,
-    slot: usize,
-    values: Vec<Step>,
-) -> Result<NamedStep, AllocError>
-    ensures { IfOk result (λ named. IsRemembered places.old places.new named.names.items
-        (variants.SummarizePer operand per attributes aggregates slot values) named.step) }
-{
-    let mut operand = operand;
-    let mut per = per;
-    let mut values = values;
-    let names = all_inside_both(alloc, places, &mut operand, &mut per, slot, &mut values)?;
-    let step = Step::SummarizePer(operand, per, attributes, aggregates, slot, values);
-    Ok(NamedStep { step, names })
-}
-
-/// A summary by attributes.
-#[cycle(remember)]
-fn summarize_by(
-    alloc: Global,
-    places: &mut usize,
-    operand: Box<Step>,
-    by: Attributes,
-    attributes: Vec<(Name, Ty)>,
-    aggregates: Vec<Agg>,
-    slot: usize,
-    values: Vec<Step>,
-) -> Result<NamedStep, AllocError>
-    ensures { IfOk result (λ named. IsRemembered places.old places.new named.names.items
-        (variants.SummarizeBy operand by attributes aggregates slot values) named.step) }
-{
-    let mut operand = operand;
-    let mut values = values;
-    let names = all_inside(alloc, places, &mut operand, slot, &mut values)?;
-    let step = Step::SummarizeBy(operand, by, attributes, aggregates, slot, values);
-    Ok(NamedStep { step, names })
-}
-
-/// A choice between two steps.
-#[cycle(remember)]
-fn choice(
-    alloc: Global,
-    places: &mut usize,
-    condition: Box<Step>,
-    consequent: Box<Step>,
-    alternative: Box<Step>,
-) -> Result<NamedStep, AllocError>
-    ensures { IfOk result (λ named. IsRemembered places.old places.new named.names.items
-        (variants.If condition consequent alternative) named.step) }
-{
-    let mut condition = condition;
-    let mut consequent = consequent;
-    let mut alternative = alternative;
-    let names = three(alloc, places, &mut condition, &mut consequent, &mut alternative)?;
-    Ok(NamedStep { step: Step::If(condition, consequent, alternative), names })
-}
-
 // ---- the parts of steps
 
 /// Keeps the answers of parts of two steps, and of the one that does not reach as far.
 #[cycle(remember)]
-fn both(
+pub(crate) fn both(
     alloc: Global,
     places: &mut usize,
     left: &mut Step,
@@ -436,7 +249,7 @@ fn both(
 
 /// Keeps the answers of parts of three steps, and of those that do not reach as far.
 #[cycle(remember)]
-fn three(
+pub(crate) fn three(
     alloc: Global,
     places: &mut usize,
     first: &mut Step,
@@ -457,7 +270,7 @@ fn three(
 
 /// Keeps the answers of parts of an operand, and of what is applied to the tuple in the slot.
 #[cycle(remember)]
-fn inside(
+pub(crate) fn inside(
     alloc: Global,
     places: &mut usize,
     operand: &mut Step,
@@ -496,7 +309,7 @@ fn remember_all(
 /// Keeps the answers of parts of steps that stand side by side, and of those that do not reach as
 /// far as others.
 #[cycle(remember)]
-fn all(
+pub(crate) fn all(
     alloc: Global,
     places: &mut usize,
     steps: &mut Vec<Step>,
@@ -512,7 +325,7 @@ fn all(
 
 /// Keeps the answers of parts of an operand, and of all that is applied to the tuple in the slot.
 #[cycle(remember)]
-fn all_inside(
+pub(crate) fn all_inside(
     alloc: Global,
     places: &mut usize,
     operand: &mut Step,
@@ -533,7 +346,7 @@ fn all_inside(
 
 /// Keeps the answers of parts of two operands, and of all that is applied to the tuple in the slot.
 #[cycle(remember)]
-fn all_inside_both(
+pub(crate) fn all_inside_both(
     alloc: Global,
     places: &mut usize,
     operand: &mut Step,

@@ -148,15 +148,15 @@ all_inside_both-returns t c =
     c.joined.ensures.first c.joined.ensures.second
 
 pub named_step-returns-in-Constant : goal.named_step-returns-in-Constant
-named_step-returns-in-Constant t c = leaf_remembered c.args.places.now c.new.result.items c.args.step _ (ap step_view (sym c.in-Constant.is))
+named_step-returns-in-Constant t c = leaf_remembered c.args.places.now c.new-none.result.items c.args.step _ (ap step_view (sym c.in-Constant.is))
     (λ w s t agree. rw (ap step_view c.in-Constant.is) refl) (λ ps. tt)
 
 pub named_step-returns-in-Refused : goal.named_step-returns-in-Refused
-named_step-returns-in-Refused t c = leaf_remembered c.args.places.now c.new-in-Refused.result.items c.args.step _ (ap step_view (sym c.in-Refused.is))
+named_step-returns-in-Refused t c = leaf_remembered c.args.places.now c.new-none.result.items c.args.step _ (ap step_view (sym c.in-Refused.is))
     (λ w s t agree. rw (ap step_view c.in-Refused.is) refl) (λ ps. tt)
 
 pub named_step-returns-in-Relvar : goal.named_step-returns-in-Relvar
-named_step-returns-in-Relvar t c = leaf_remembered c.args.places.now c.new-in-Relvar.result.items c.args.step _ (ap step_view (sym c.in-Relvar.is))
+named_step-returns-in-Relvar t c = leaf_remembered c.args.places.now c.new-none.result.items c.args.step _ (ap step_view (sym c.in-Relvar.is))
     (λ w s t agree. rw (ap step_view c.in-Relvar.is) refl) (λ ps. tt)
 
 pub named_step-returns-in_ok-names-in-Attribute : goal.named_step-returns-in_ok-names-in-Attribute
@@ -166,51 +166,51 @@ named_step-returns-in_ok-names-in-Attribute t c =
     leaf_remembered c.args.places.now c.in_ok-names-in-Attribute.names.items c.args.step _ (ap step_view (sym c.in-Attribute.is))
     (subst (λ ns. IsOn ns (step_view c.args.step)) (sym c.in_ok-names-in-Attribute.ensures) (subst (IsOn (k ∷ [])) (ap step_view (sym c.in-Attribute.is)) (attribute_on k place))) (λ ps. tt)
 
-pub look_up-returns : goal.look_up-returns
-look_up-returns t c =
+pub nodes::look_up-returns : goal.nodes::look_up-returns
+nodes::look_up-returns t c =
     let names = c.in_ok-names.names.items in
     let key = c.args.key.items in
     one_remembered (plans.look_up c.args.relvar key) _ _ names (look_up_on names c.args.relvar key) _ _ _ _ c.in_ok-names.ensures
     (λ i. plans.look_up c.args.relvar key (step_view (sym c.deref_mut.ensures.value i))) refl (λ ps s. s)
 
-pub monadic-returns : goal.monadic-returns
-monadic-returns t c =
+pub nodes::monadic-returns : goal.nodes::monadic-returns
+nodes::monadic-returns t c =
     let names = c.in_ok-names.names.items in
     let op = monadic_view c.args.op in
     one_remembered (plans.monadic op) _ _ names (monadic_on names op) _ _ _ _ c.in_ok-names.ensures
     (λ i. plans.monadic op (step_view (sym c.deref_mut.ensures.value i))) refl (λ ps s. s)
 
-pub dyadic-returns : goal.dyadic-returns
-dyadic-returns t c =
+pub nodes::dyadic-returns : goal.nodes::dyadic-returns
+nodes::dyadic-returns t c =
     let names = c.in_ok-names.names.items in
     let op = dyadic_view c.args.op in
     two_remembered (λ p q. plans.dyadic p op q) (λ x y. AreAmong x names × AreAmong y names) _ _ names
     (λ x y p q among f g. dyadic_on names p op q (on_more x names p among.0 f) (on_more y names q among.1 g)) _ _ _ _ _ _ c.in_ok-names.ensures
     (λ i. plans.dyadic (step_view (sym c.deref_mut.ensures.value i)) op (step_view (sym c.deref_mut-2.ensures.value i))) refl (λ ps s. s)
 
-pub choice-returns : goal.choice-returns
-choice-returns t c =
+pub nodes::choice-returns : goal.nodes::choice-returns
+nodes::choice-returns t c =
     let names = c.in_ok-names.names.items in
     three_made plans.choice _ _ names (choice_on names) _ _ _ _ _ _ _ _ c.in_ok-names.ensures
     (λ i. plans.choice (step_view (sym c.deref_mut.ensures.value i)) (step_view (sym c.deref_mut-2.ensures.value i)) (step_view (sym c.deref_mut-3.ensures.value i))) refl (λ ps s. s)
 
-pub select-returns : goal.select-returns
-select-returns t c =
+pub nodes::select-returns : goal.nodes::select-returns
+nodes::select-returns t c =
     let names = c.in_ok-names.names.items in
     let selector = c.args.selector in
     all_made (plans.select (selector_view selector)) _ _ names (select_on names (selector_view selector)) _ _ _ _ c.in_ok-names.ensures
     (select_is selector c.args.parts) (select_is selector c.all.new.steps) (λ ps s. parts_sound ps c.all.new.steps s)
 
-pub restriction-returns : goal.restriction-returns
-restriction-returns t c =
+pub nodes::restriction-returns : goal.nodes::restriction-returns
+nodes::restriction-returns t c =
     let names = c.in_ok-names.names.items in
     let slot = c.args.slot in
     two_remembered (λ p q. plans.restriction p slot q) (λ x y. AreAmong x names × AreAmongBut slot y names) _ _ names
     (λ x y p q among f g. restriction_on names y slot among.1 p q (on_more x names p among.0 f) g) _ _ _ _ _ _ c.in_ok-names.ensures
     (λ i. plans.restriction (step_view (sym c.deref_mut.ensures.value i)) slot (step_view (sym c.deref_mut-2.ensures.value i))) refl (λ ps s. s)
 
-pub aggregate-returns : goal.aggregate-returns
-aggregate-returns t c =
+pub nodes::aggregate-returns : goal.nodes::aggregate-returns
+nodes::aggregate-returns t c =
     let names = c.in_ok-names.names.items in
     let slot = c.args.slot in
     let op = c.args.op in
@@ -218,8 +218,8 @@ aggregate-returns t c =
     (λ x y p q among f g. aggregate_on names y slot among.1 op p q (on_more x names p among.0 f) g) _ _ _ _ _ _ c.in_ok-names.ensures
     (λ i. plans.aggregate op (step_view (sym c.deref_mut.ensures.value i)) slot (step_view (sym c.deref_mut-2.ensures.value i))) refl (λ ps s. s)
 
-pub extend-returns : goal.extend-returns
-extend-returns t c =
+pub nodes::extend-returns : goal.nodes::extend-returns
+nodes::extend-returns t c =
     let names = c.in_ok-names.names.items in
     let slot = c.args.slot in
     let attributes = pairs_view c.args.attributes.items in
@@ -227,8 +227,8 @@ extend-returns t c =
     (λ i. plans.extend (step_view (sym c.deref_mut.ensures.value i)) attributes slot (steps_are c.args.values i)) (ap (plans.extend (step_view c.all_inside.new.operand) attributes slot) (steps_are c.all_inside.new.steps))
     (λ ps s. (s.0, parts_sound ps c.all_inside.new.steps s.1))
 
-pub summarize_by-returns : goal.summarize_by-returns
-summarize_by-returns t c =
+pub nodes::summarize_by-returns : goal.nodes::summarize_by-returns
+nodes::summarize_by-returns t c =
     let names = c.in_ok-names.names.items in
     let slot = c.args.slot in
     let by = attributes_view c.args.by in
@@ -240,8 +240,8 @@ summarize_by-returns t c =
     (ap (plans.summarize_by (step_view c.all_inside.new.operand) by attributes aggregates slot) (steps_are c.all_inside.new.steps))
     (λ ps s. (s.0, parts_sound ps c.all_inside.new.steps s.1))
 
-pub summarize_per-returns : goal.summarize_per-returns
-summarize_per-returns t c =
+pub nodes::summarize_per-returns : goal.nodes::summarize_per-returns
+nodes::summarize_per-returns t c =
     let names = c.in_ok-names.names.items in
     let slot = c.args.slot in
     let attributes = pairs_view c.args.attributes.items in
