@@ -7,6 +7,7 @@ pub mod EqualRestrictions
 pub mod EqualValues
 pub mod FixedParts
 pub mod FixedValues
+pub mod HandSlots
 pub mod LookUpLaws
 pub mod LookUpParts
 pub mod LookUpValues
@@ -34,6 +35,7 @@ pub mod RunLaws
 pub mod SlotLaws
 pub mod SoundSteps
 pub mod StepHeights
+pub mod StepParts
 pub mod StepRows
 pub mod StepWeights
 pub mod SummaryLaws

@@ -105,6 +105,17 @@ three_remembered a b c d e z names own all f f1 f2 s s1 s2 t t1 t2 h i j k l fir
           (swapped a c (λ ps. IsSound ps s1 × IsSound ps t1) (λ ps. IsSound ps f1) (placed_both a b c _ _ h.placed i.placed)))))));
     }
 
+pub three_made : (make : PlanTree → PlanTree → PlanTree → PlanTree) (a b : ℕ) (names : List ℕ)
+    → ((p q r : PlanTree) → IsOn names p → IsOn names q → IsOn names r → IsOn names (make p q r))
+    → (f s t new_f new_s new_t old new : Step) → AreThreeRemembered a b names f s t new_f new_s new_t
+    → step_view old ≡ make (step_view f) (step_view s) (step_view t) → step_view new ≡ make (step_view new_f) (step_view new_s) (step_view new_t)
+    → ((ps : Parts) → IsSound ps new_f × IsSound ps new_s × IsSound ps new_t → IsSound ps new) → IsRemembered a b names old new
+three_made make a b names law f s t new_f new_s new_t old new h was is sound = record {
+  view = is ∙ (λ i. make (h.first i) (h.second i) (h.third i)) ∙ sym was;
+  on = subst (IsOn names) (sym was) (law (step_view f) (step_view s) (step_view t) h.first_on h.second_on h.third_on);
+  placed = placed_map a b _ _ sound h.placed;
+}
+
 -- ---- lists of steps
 
 abbrev AreEachOn : List (List ℕ) → List Step → Type 0

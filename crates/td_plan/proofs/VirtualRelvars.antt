@@ -22,14 +22,14 @@ use Rattle.td_eval.proofs.code_lemmas.WorldParts.{virtual_name, world_scope, wor
 use Rattle.td_plan.specs.declared.running.surroundings.ValuedRelvar.{ValuedRelvar}
 use Rattle.td_plan.specs.code.Hands.{AreValued, IsValued}
 use Rattle.td_plan.specs.Plans.{PlanTree}
-use Rattle.td_plan.specs.PlansOf.{AreInHand, IsPlanOf, IsPlanOfTyped, outermost}
+use Rattle.td_plan.specs.PlansOf.{AreInHand, IsPlanFor, IsPlanOf, IsPlanOfTyped, outermost}
 use Rattle.td_plan.specs.VirtualRelvars.{VirtualRelvarsAreTheirExpressions}
 use Rattle.td_tree.specs.declared.fault.Fault.{Fault}
 use Rattle.td_tree.specs.Outcomes.{Answers, Outcome, Valued}
 use Rattle.td_tree.specs.Trees.{Tree}
 use Rattle.td_types.specs.Types.{pack}
 use Rattle.td_types.specs.Types as types
-use Rattle.td_value.specs.Values.{Val}
+use Rattle.td_value.specs.Values.{Tuple, Val}
 
 module _ (db : Database) (is_typed : IsTyped db) (written : DefinitionsAreWritten db) where
   -- the database gives values in its scope
@@ -82,8 +82,8 @@ module _ (db : Database) (is_typed : IsTyped db) (written : DefinitionsAreWritte
 
     -- what a plan of its expression answers where no tuple is in hand is an answer for it
     pub virtual_planned : (r : Result Val Fault) (p : PlanTree) (e : Tree) → e ≡ v.tree → IsPlanOfTyped (database_scope db) p e
-        → ((scope : Scope) (t : Tree) → IsPlanOf scope p t → GivesValues (world_of db) (outermost scope) → AreInHand scope []
-        → Answers (λ u. u) r (value_of (world_of db) [] t))
+        → ((scope : Scope) (outcome : World → List Tuple → Outcome Val) → IsPlanFor scope p outcome → GivesValues (world_of db) (outermost scope)
+        → AreInHand scope [] → Answers (λ u. u) r (outcome (world_of db) []))
         → Answers (λ u. u) r (known_outcome ((world_of db).relvar n))
     virtual_planned r p e same planned found =
         let planned_here : IsPlanOf (database_scope db) p e =
@@ -91,7 +91,7 @@ module _ (db : Database) (is_typed : IsTyped db) (written : DefinitionsAreWritte
         (subst (λ t. type_of (database_scope db) t ≡ Valued (types.relation (pack v.heading))) (sym same) virtual_typed) in
         subst (λ o. Answers (λ (u : Val). u) r (known_outcome o)) (sym virtual_is)
         (subst (λ t. Answers (λ (u : Val). u) r (value_of (world_of db) [] t)) same
-        (found (database_scope db) e planned_here database_gives (tt, refl)))
+        (found (database_scope db) (λ w s. value_of w s e) planned_here database_gives (tt, refl)))
 
 pub virtual_relvars_are_their_expressions : VirtualRelvarsAreTheirExpressions
 virtual_relvars_are_their_expressions db n v is_typed written is = virtual_is db is_typed written n v is

@@ -14,7 +14,7 @@ ghost use Rattle.td_types.specs.code.Views.{pairs_view};
 ghost use Rattle.td_value.specs.Values.{Relation};
 
 use crate::making::plans::{plan, plan_in_relvar, plan_settings};
-use crate::running::run_plan::run_plan;
+use crate::running::run_plan::run_valued;
 use std::alloc::Global;
 use td_body::body::Body;
 use td_eval::env::Env;
@@ -35,7 +35,7 @@ pub fn value_in<B: Body>(alloc: Global, env: &Env<'_, B>, expr: &Expr) -> Result
         (value_of (world_in env.now) (tuples_in_hand env.now) (tree_view expr.now)) }
 {
     let plan = plan(alloc, env, expr)?;
-    run_plan(alloc, env, &plan)
+    run_valued(alloc, env, &plan)
 }
 
 /// The tuples of the relvar for which the condition is TRUE, or the least of the causes for which
@@ -54,7 +54,7 @@ pub fn tuples_where<B: Body>(
         (restriction (name relvar.now) (tree_view condition.now))) }
 {
     let plan = plan_in_relvar(alloc, env, relvar, condition)?;
-    run_plan(alloc, env, &plan)
+    run_valued(alloc, env, &plan)
 }
 
 /// The relation that was answered.
@@ -84,5 +84,5 @@ pub fn set_in_tuples<B: Body>(
         (tuples_in_hand env.now) (named_view parts.now)) rel.now) }
 {
     let plan = plan_settings(alloc, env, rel, attributes, parts)?;
-    relation_of(run_plan(alloc, env, &plan))
+    relation_of(run_valued(alloc, env, &plan))
 }

@@ -2,14 +2,8 @@
 use Rattle.std.specs.Prelude.{◌≡◌, ◌⊎◌, ◌<◌, ℕ, suc, List, [], ◌∷◌, ⊤}
 use Rattle.std.specs.List.{Contains}
 use Rattle.td_plan.specs.declared.plan.step.Step.{Step}
-use Rattle.td_plan.specs.declared.plan.step.Step.TheVariants as steps
 use Rattle.td_plan.specs.code.Memos.{AreOn, AreSound, IsOn, IsSound, Parts, Placed}
 use Rattle.td_plan.specs.code.StepViews.{step_view, steps_view}
-
--- what stands for a part whose answer is kept
-abbrev pub IsKeptPart : Step → Type 0
-IsKeptPart (steps.Once' place reach _ part) = ⊤
-IsKeptPart _ = ⊥
 
 -- ---- slots that are named
 

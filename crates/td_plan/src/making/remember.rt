@@ -6,10 +6,13 @@ ghost use Rattle.td_plan.specs.code.Remembered.{AreAllAmong, AreAmong, AreAmongB
 ghost use Rattle.td_plan.specs.code.Remembered.{AreEachKept, AreEachRemembered, AreRemembered};
 ghost use Rattle.td_plan.specs.code.Remembered.{AreAllRemembered, AreRememberedInside};
 ghost use Rattle.td_plan.specs.code.Remembered.{AreRememberedInsideBoth, AreThreeRemembered};
-ghost use Rattle.td_plan.specs.code.Remembered.{IsKeptPart, IsRemembered, KeepsPart};
-ghost use Rattle.td_plan.specs.code.StepHeights.{step_height};
+ghost use Rattle.td_plan.specs.code.Remembered.{IsRemembered, KeepsPart};
 ghost use Rattle.td_plan.specs.code.StepViews.{step_view};
 
+mod nodes;
+
+use crate::making::remember::nodes::{aggregate, choice, dyadic, extend, look_up, monadic};
+use crate::making::remember::nodes::{restriction, select, summarize_by, summarize_per};
 use crate::plan::step::Step;
 use std::alloc::{AllocError, Global};
 use std::mem;
@@ -156,59 +159,77 @@ fn keep_all(
     Ok(())
 }
 
-/// Becomes the part whose answer it keeps, which is to be found anew.
-fn become_part(step: &mut Step)
-    ensures view { step_view step.new ≡ step_view step.old }
-    ensures height { IsKeptPart step.old → step_height step.new < step_height step.old }
-{
-    let old = mem::replace(step, Step::Refused(Cause::NameUnknown));
-    *step = match old {
-        Step::Once { place: _, reach: _, part } => Box::into_inner(part),
-        other => other,
-    };
-}
-
 // ---- the walk
+
+/// A step whose parts are kept, and the slots that it names.
+#[derive(Drop)]
+pub(crate) struct NamedStep {
+    pub(crate) step: Step,
+    pub(crate) names: Vec<usize>,
+}
 
 /// Keeps the answers of the step's parts. It gives the slots that the step names.
 #[cycle(remember)]
-fn remember(alloc: Global, places: &mut usize, step: &mut Step) -> Result<Vec<usize>, AllocError>
+pub(crate) fn remember(
+    alloc: Global,
+    places: &mut usize,
+    step: &mut Step,
+) -> Result<Vec<usize>, AllocError>
     ensures { IfOk result (λ names.
         IsRemembered places.old places.new names.items step.old step.new) }
 {
+    let old = mem::replace(step, Step::Refused(Cause::NameUnknown));
+    let named = named_step(alloc, places, old)?;
+    *step = named.step;
+    Ok(named.names)
+}
+
+/// The step with the parts whose answers are kept. A part that is kept already is found anew.
+#[cycle(remember)]
+fn named_step(alloc: Global, places: &mut usize, step: Step) -> Result<NamedStep, AllocError>
+    ensures { IfOk result (λ named.
+        IsRemembered places.old places.new named.names.items step named.step) }
+{
+    let none = Vec::new(alloc);
     match step {
-        Step::Constant(_) => Ok(Vec::new(alloc)),
-        Step::Refused(_) => Ok(Vec::new(alloc)),
-        Step::Relvar(_) => Ok(Vec::new(alloc)),
-        Step::Attribute { slot, place: _ } => one(alloc, *slot),
-        Step::LookUp(_, _, operand) => remember(alloc, places, operand),
-        Step::Monadic(_, operand) => remember(alloc, places, operand),
-        Step::Dyadic(left, _, right) => both(alloc, places, left, right),
-        Step::Select(_, parts) => all(alloc, places, parts),
-        Step::Restriction(operand, slot, body, _) => inside(alloc, places, operand, *slot, body),
-        Step::Extend(operand, _, slot, values) => {
-            all_inside(alloc, places, operand, *slot, values)
+        Step::Constant(value) => Ok(NamedStep { step: Step::Constant(value), names: none }),
+        Step::Refused(cause) => Ok(NamedStep { step: Step::Refused(cause), names: none }),
+        Step::Relvar(name) => Ok(NamedStep { step: Step::Relvar(name), names: none }),
+        Step::Attribute { slot, place } => {
+            let names = one(alloc, slot)?;
+            Ok(NamedStep { step: Step::Attribute { slot, place }, names })
         }
-        Step::Aggregate(_, operand, slot, body) => inside(alloc, places, operand, *slot, body),
-        Step::SummarizePer(operand, per, _, _, slot, values) => {
-            all_inside_both(alloc, places, operand, per, *slot, values)
+        Step::LookUp(relvar, key, operand) => look_up(alloc, places, relvar, key, operand),
+        Step::Monadic(op, operand) => monadic(alloc, places, op, operand),
+        Step::Dyadic(left, op, right) => dyadic(alloc, places, left, op, right),
+        Step::Select(selector, parts) => select(alloc, places, selector, parts),
+        Step::Restriction(operand, slot, body, origin) => {
+            restriction(alloc, places, operand, slot, body, origin)
         }
-        Step::SummarizeBy(operand, _, _, _, slot, values) => {
-            all_inside(alloc, places, operand, *slot, values)
+        Step::Extend(operand, attributes, slot, values) => {
+            extend(alloc, places, operand, attributes, slot, values)
+        }
+        Step::Aggregate(op, operand, slot, body) => {
+            aggregate(alloc, places, op, operand, slot, body)
+        }
+        Step::SummarizePer(operand, per, attributes, aggregates, slot, values) => {
+            summarize_per(alloc, places, operand, per, attributes, aggregates, slot, values)
+        }
+        Step::SummarizeBy(operand, by, attributes, aggregates, slot, values) => {
+            summarize_by(alloc, places, operand, by, attributes, aggregates, slot, values)
         }
         Step::If(condition, consequent, alternative) => {
-            three(alloc, places, condition, consequent, alternative)
+            choice(alloc, places, condition, consequent, alternative)
         }
-        Step::Once { place: _, reach: _, part: _ } => {
-            become_part(step);
-            remember(alloc, places, step)
-        }
+        Step::Once { place: _, reach: _, part } => named_step(alloc, places, Box::into_inner(part)),
     }
 }
 
+// ---- the parts of steps
+
 /// Keeps the answers of parts of two steps, and of the one that does not reach as far.
 #[cycle(remember)]
-fn both(
+pub(crate) fn both(
     alloc: Global,
     places: &mut usize,
     left: &mut Step,
@@ -228,7 +249,7 @@ fn both(
 
 /// Keeps the answers of parts of three steps, and of those that do not reach as far.
 #[cycle(remember)]
-fn three(
+pub(crate) fn three(
     alloc: Global,
     places: &mut usize,
     first: &mut Step,
@@ -249,7 +270,7 @@ fn three(
 
 /// Keeps the answers of parts of an operand, and of what is applied to the tuple in the slot.
 #[cycle(remember)]
-fn inside(
+pub(crate) fn inside(
     alloc: Global,
     places: &mut usize,
     operand: &mut Step,
@@ -288,7 +309,7 @@ fn remember_all(
 /// Keeps the answers of parts of steps that stand side by side, and of those that do not reach as
 /// far as others.
 #[cycle(remember)]
-fn all(
+pub(crate) fn all(
     alloc: Global,
     places: &mut usize,
     steps: &mut Vec<Step>,
@@ -304,7 +325,7 @@ fn all(
 
 /// Keeps the answers of parts of an operand, and of all that is applied to the tuple in the slot.
 #[cycle(remember)]
-fn all_inside(
+pub(crate) fn all_inside(
     alloc: Global,
     places: &mut usize,
     operand: &mut Step,
@@ -325,7 +346,7 @@ fn all_inside(
 
 /// Keeps the answers of parts of two operands, and of all that is applied to the tuple in the slot.
 #[cycle(remember)]
-fn all_inside_both(
+pub(crate) fn all_inside_both(
     alloc: Global,
     places: &mut usize,
     operand: &mut Step,

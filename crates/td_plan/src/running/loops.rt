@@ -1,6 +1,6 @@
 //! The values of steps that choose, or that go over the tuples of an operand. The operand is
 //! evaluated first.
-ghost use Rattle.std.specs.Prelude.{max, suc};
+ghost use Rattle.std.specs.Prelude.{◌≡◌, max, suc};
 ghost use Rattle.std.specs.List.{zip};
 ghost use Rattle.td_plan.specs.Plans.{aggregate, choice, dyadic, extend, measure, monadic};
 ghost use Rattle.td_plan.specs.Plans.{plan_value, restriction, summarize_by, summarize_per};

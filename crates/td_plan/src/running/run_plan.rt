@@ -73,8 +73,28 @@ pub(crate) fn run_plan_in<B: Body>(
 }
 
 /// What the plan is for: of a plan of an expression, the expression's value, or the least of the
-/// causes for which it has none. Each virtual relvar that it may need is evaluated once.
+/// causes for which it has none. A virtual relvar is evaluated where the plan names it.
 pub fn run_plan<B: Body>(alloc: Global, env: &Env<'_, B>, plan: &Plan) -> Result<Value, Fault>
+    ensures { (scope : Scope) (outcome : World → List Tuple → Outcome Val)
+        → IsPlanFor scope (plan_view plan.now) outcome
+        → GivesValues (world_in env.now) (outermost scope)
+        → AreInHand scope (tuples_in_hand env.now)
+        → Answers (λ v. v) result (outcome (world_in env.now) (tuples_in_hand env.now)) }
+{
+    let around = Surroundings {
+        alloc,
+        env,
+        valued: &[],
+    };
+    run_plan_in(&around, plan)
+}
+
+/// The same where each virtual relvar that the plan may need is evaluated once, before.
+pub(crate) fn run_valued<B: Body>(
+    alloc: Global,
+    env: &Env<'_, B>,
+    plan: &Plan,
+) -> Result<Value, Fault>
     requires { DefinitionsAreWritten env.now.catalog.now.database }
     ensures { (scope : Scope) (outcome : World → List Tuple → Outcome Val)
         → IsPlanFor scope (plan_view plan.now) outcome

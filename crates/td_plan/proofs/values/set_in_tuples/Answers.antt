@@ -20,8 +20,8 @@ returns g c = λ rules.
     let parts = named_view c.args.parts.now in
     let fs = values_in_tuples (world_in env) (tuples_in_hand env) parts in
     c.relation_of.ensures (set_value xs fs r)
-    (subst (λ o. Answers (λ v. v) c.run_plan.result o)
+    (subst (λ o. Answers (λ v. v) c.run_valued.result o)
     (extension_is_set xs fs r
     (length-map c.args.attributes.items pair_view ∙ c.requires.lengths ∙ sym (as_many_set (world_in env) (tuples_in_hand env) c.args.parts.now)) c.requires.distinct)
-    (c.run_plan.ensures (scope_in env) (λ w s. extension_of xs (values_in_tuples w s parts) r)
+    (c.run_valued.ensures (scope_in env) (λ w s. extension_of xs (values_in_tuples w s parts) r)
     (c.in_ok-plan.ensures rules.relation.0 rules.relation.1 rules.written.0 rules.written.1 rules.typed.0 rules.typed.1) rules.gives rules.tuples))

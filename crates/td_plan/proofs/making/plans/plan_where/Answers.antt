@@ -12,5 +12,5 @@ returns g c =
     planned_by (λ p. IsPlanOfTyped (scope_in c.args.env.now) p d) c.where_of-step.result c.plan_by.result c.plan_by.ensures
     (subst (λ s. IsPlanned s c.where_of-step.result d) c.in_ok-planner.ensures.scope c.where_of-step.ensures)
 
-pub where_of-requires : goal.where_of-requires
-where_of-requires g c = c.in_ok-planner.ensures.planner
+pub where_of-step-requires : goal.where_of-step-requires
+where_of-step-requires g c = c.in_ok-planner.ensures.planner

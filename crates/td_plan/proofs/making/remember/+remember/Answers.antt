@@ -1,14 +1,19 @@
-use Rattle.std.proofs.Common.{◌≡◌, ◌∙◌, ◌<◌, ◌+◌, ◌++◌, ◌∷◌, [], List, ap, arith, length, map, refl, slice_set, subst, sym, take, ℕ}
+use Rattle.std.proofs.Common.{◌≡◌, ◌∙◌, ◌<◌, ◌≤◌, ◌+◌, ◌++◌, ◌∷◌, [], List, ap, arith, length, map, refl, slice_set, subst, sym, take, ℕ}
 use Rattle.std.proofs.lemmas.List.{length-map, map_push}
 use Rattle.std.proofs.lemmas.Result.{IfOk-weaker}
 use Rattle.std.specs.Global.{Vec}
 use Rattle.td_plan.proofs.EachStep.{each_all, each_next}
-use Rattle.td_plan.proofs.Remembering.{all_made, all_remembered, among_but_more, inside_both_made, inside_both_remembered, inside_made, inside_remembered, kept_view, leaf_remembered, listed, ok_by_both, one_remembered, three_remembered, two_placed, two_remembered}
-use Rattle.td_plan.proofs.Withins.{attribute_on}
+use Rattle.td_plan.proofs.Remembering.{all_made, all_remembered, among_but_more, inside_both_made, inside_both_remembered, inside_made, inside_remembered, kept_view, leaf_remembered, listed, ok_by_both, one_remembered, three_made, three_remembered, two_placed, two_remembered}
+use Rattle.td_plan.proofs.RememberedRows.{part_deep, parts_deep, parts_sound}
+use Rattle.td_plan.proofs.StepRows.{select_is, steps_are}
+use Rattle.td_plan.proofs.Withins.{aggregate_on, attribute_on, choice_on, dyadic_on, extend_on, look_up_on, monadic_on, on_more, restriction_on, select_on, summarize_by_on, summarize_per_on}
 use Rattle.td_plan.specs.Plans as plans
 use Rattle.td_plan.specs.code.Memos.{IsOn, IsSound}
 use Rattle.td_plan.specs.code.Remembered.{AreAllAmong, AreAmong, AreAmongBut, AreEachKept, AreEachRemembered, IsRemembered, KeepsPart}
-use Rattle.td_plan.specs.code.StepViews.{step_view, steps_view}
+use Rattle.td_plan.specs.code.StepHeights.{step_height, steps_height}
+use Rattle.td_plan.specs.code.StepViews.{dyadic_view, monadic_view, selector_view, step_view, steps_view}
+use Rattle.td_tree.specs.code.TreeViews.{attributes_view}
+use Rattle.td_types.specs.code.Views.{pairs_view}
 use Rattle.td_plan.proofs.making.remember.+remember.Goals as goal
 
 pub both-returns : goal.both-returns
@@ -60,7 +65,12 @@ three-returns t c =
     c.joined.ensures.first c.joined.ensures.second
 
 pub remember_all-remember-requires : goal.remember_all-remember-requires
-remember_all-remember-requires t c = ?
+remember_all-remember-requires t c =
+    let within = c.loop-step-test.true in
+    let inside : c.loop-step.step-index < length c.loop-step.step-items = omega (arith, within, c.loop-step.auto.step-items) in
+    let deep = part_deep c.loop-step.step-items c.args.steps.now.items c.loop-step.step-index c.step-item.result inside c.step-item.is c.loop-step.invariant.1 in
+    let same = ap step_height c.step-item.is in
+    (omega (arith, c.decreases, deep, same), tt)
 
 pub remember_all-loop-step-preserved : goal.remember_all-loop-step-preserved
 remember_all-loop-step-preserved t c =
@@ -82,7 +92,16 @@ remember_all-loop-step-preserved t c =
     (subst (λ nss. AreEachRemembered c.args.places.now c.remember.new.places nss (take (i + 1) old) (take (i + 1) (slice_set cur i c.remember.new.step))) (sym more) next.0, next.1)
 
 pub remember_all-returns : goal.remember_all-returns
-remember_all-returns t c = ?
+remember_all-returns t c =
+    let cur = c.loop-step.step-items in
+    let old = c.args.steps.now.items in
+    let i = c.loop-step.step-index in
+    let items = λ (ns : Vec ℕ). ns.items in
+    let lengths : length cur ≡ length old = c.loop-step.auto.step-items ∙ ap length c.deref_mut-step-items.ensures.value in
+    let past = c.loop-step-test.false in
+    let far : length cur ≤ i = omega (arith, past, c.loop-step.auto.step-items) in
+    each_all (λ a b ns o x. IsRemembered a b ns o x) c.args.places.now c.loop-step.places (map items c.loop-step.all.items) old cur i c.args.steps.now.len lengths
+    (sym (ap length c.deref_mut-step-items.ensures.value) ∙ c.deref_mut-step-items.ensures.len) far c.loop-step.invariant.0
 
 pub all-keep_all-requires : goal.all-keep_all-requires
 all-keep_all-requires t c =
@@ -128,29 +147,132 @@ all_inside_both-returns t c =
     x (subst (λ ns. AreAmong ns names.items) c.deref-5.ensures.value y))
     c.joined.ensures.first c.joined.ensures.second
 
-pub remember-returns-in-Constant : goal.remember-returns-in-Constant
-remember-returns-in-Constant t c = leaf_remembered c.args.places.now c.new.result.items c.args.step.now c.args.step.now refl
-    (λ w s t agree. rw (ap step_view c.in-Constant.is) refl) (λ ps. subst (IsSound ps) (sym c.in-Constant.is) tt)
+pub named_step-returns-in-Constant : goal.named_step-returns-in-Constant
+named_step-returns-in-Constant t c = leaf_remembered c.args.places.now c.new-none.result.items c.args.step _ (ap step_view (sym c.in-Constant.is))
+    (λ w s t agree. rw (ap step_view c.in-Constant.is) refl) (λ ps. tt)
 
-pub remember-returns-in-Refused : goal.remember-returns-in-Refused
-remember-returns-in-Refused t c = leaf_remembered c.args.places.now c.new-in-Refused.result.items c.args.step.now c.args.step.now refl
-    (λ w s t agree. rw (ap step_view c.in-Refused.is) refl) (λ ps. subst (IsSound ps) (sym c.in-Refused.is) tt)
+pub named_step-returns-in-Refused : goal.named_step-returns-in-Refused
+named_step-returns-in-Refused t c = leaf_remembered c.args.places.now c.new-none.result.items c.args.step _ (ap step_view (sym c.in-Refused.is))
+    (λ w s t agree. rw (ap step_view c.in-Refused.is) refl) (λ ps. tt)
 
-pub remember-returns-in-Relvar : goal.remember-returns-in-Relvar
-remember-returns-in-Relvar t c = leaf_remembered c.args.places.now c.new-in-Relvar.result.items c.args.step.now c.args.step.now refl
-    (λ w s t agree. rw (ap step_view c.in-Relvar.is) refl) (λ ps. subst (IsSound ps) (sym c.in-Relvar.is) tt)
+pub named_step-returns-in-Relvar : goal.named_step-returns-in-Relvar
+named_step-returns-in-Relvar t c = leaf_remembered c.args.places.now c.new-none.result.items c.args.step _ (ap step_view (sym c.in-Relvar.is))
+    (λ w s t agree. rw (ap step_view c.in-Relvar.is) refl) (λ ps. tt)
 
-pub remember-returns-in-Attribute : goal.remember-returns-in-Attribute
-remember-returns-in-Attribute t c = ?
+pub named_step-returns-in_ok-names-in-Attribute : goal.named_step-returns-in_ok-names-in-Attribute
+named_step-returns-in_ok-names-in-Attribute t c =
+    let k = c.in-Attribute.slot in
+    let place = c.in-Attribute.place in
+    leaf_remembered c.args.places.now c.in_ok-names-in-Attribute.names.items c.args.step _ (ap step_view (sym c.in-Attribute.is))
+    (subst (λ ns. IsOn ns (step_view c.args.step)) (sym c.in_ok-names-in-Attribute.ensures) (subst (IsOn (k ∷ [])) (ap step_view (sym c.in-Attribute.is)) (attribute_on k place))) (λ ps. tt)
 
-pub remember-returns-in-LookUp : goal.remember-returns-in-LookUp
-remember-returns-in-LookUp t c = ?
+pub nodes::look_up-returns : goal.nodes::look_up-returns
+nodes::look_up-returns t c =
+    let names = c.in_ok-names.names.items in
+    let key = c.args.key.items in
+    one_remembered (plans.look_up c.args.relvar key) _ _ names (look_up_on names c.args.relvar key) _ _ _ _ c.in_ok-names.ensures
+    (λ i. plans.look_up c.args.relvar key (step_view (sym c.deref_mut.ensures.value i))) refl (λ ps s. s)
 
-pub remember-returns-in-Dyadic : goal.remember-returns-in-Dyadic
-remember-returns-in-Dyadic t c = ?
+pub nodes::monadic-returns : goal.nodes::monadic-returns
+nodes::monadic-returns t c =
+    let names = c.in_ok-names.names.items in
+    let op = monadic_view c.args.op in
+    one_remembered (plans.monadic op) _ _ names (monadic_on names op) _ _ _ _ c.in_ok-names.ensures
+    (λ i. plans.monadic op (step_view (sym c.deref_mut.ensures.value i))) refl (λ ps s. s)
 
-pub remember-returns-in-Select : goal.remember-returns-in-Select
-remember-returns-in-Select t c = ?
+pub nodes::dyadic-returns : goal.nodes::dyadic-returns
+nodes::dyadic-returns t c =
+    let names = c.in_ok-names.names.items in
+    let op = dyadic_view c.args.op in
+    two_remembered (λ p q. plans.dyadic p op q) (λ x y. AreAmong x names × AreAmong y names) _ _ names
+    (λ x y p q among f g. dyadic_on names p op q (on_more x names p among.0 f) (on_more y names q among.1 g)) _ _ _ _ _ _ c.in_ok-names.ensures
+    (λ i. plans.dyadic (step_view (sym c.deref_mut.ensures.value i)) op (step_view (sym c.deref_mut-2.ensures.value i))) refl (λ ps s. s)
 
-pub remember-all-requires : goal.remember-all-requires
-remember-all-requires t c = ?
+pub nodes::choice-returns : goal.nodes::choice-returns
+nodes::choice-returns t c =
+    let names = c.in_ok-names.names.items in
+    three_made plans.choice _ _ names (choice_on names) _ _ _ _ _ _ _ _ c.in_ok-names.ensures
+    (λ i. plans.choice (step_view (sym c.deref_mut.ensures.value i)) (step_view (sym c.deref_mut-2.ensures.value i)) (step_view (sym c.deref_mut-3.ensures.value i))) refl (λ ps s. s)
+
+pub nodes::select-returns : goal.nodes::select-returns
+nodes::select-returns t c =
+    let names = c.in_ok-names.names.items in
+    let selector = c.args.selector in
+    all_made (plans.select (selector_view selector)) _ _ names (select_on names (selector_view selector)) _ _ _ _ c.in_ok-names.ensures
+    (select_is selector c.args.parts) (select_is selector c.all.new.steps) (λ ps s. parts_sound ps c.all.new.steps s)
+
+pub nodes::restriction-returns : goal.nodes::restriction-returns
+nodes::restriction-returns t c =
+    let names = c.in_ok-names.names.items in
+    let slot = c.args.slot in
+    two_remembered (λ p q. plans.restriction p slot q) (λ x y. AreAmong x names × AreAmongBut slot y names) _ _ names
+    (λ x y p q among f g. restriction_on names y slot among.1 p q (on_more x names p among.0 f) g) _ _ _ _ _ _ c.in_ok-names.ensures
+    (λ i. plans.restriction (step_view (sym c.deref_mut.ensures.value i)) slot (step_view (sym c.deref_mut-2.ensures.value i))) refl (λ ps s. s)
+
+pub nodes::aggregate-returns : goal.nodes::aggregate-returns
+nodes::aggregate-returns t c =
+    let names = c.in_ok-names.names.items in
+    let slot = c.args.slot in
+    let op = c.args.op in
+    two_remembered (λ p q. plans.aggregate op p slot q) (λ x y. AreAmong x names × AreAmongBut slot y names) _ _ names
+    (λ x y p q among f g. aggregate_on names y slot among.1 op p q (on_more x names p among.0 f) g) _ _ _ _ _ _ c.in_ok-names.ensures
+    (λ i. plans.aggregate op (step_view (sym c.deref_mut.ensures.value i)) slot (step_view (sym c.deref_mut-2.ensures.value i))) refl (λ ps s. s)
+
+pub nodes::extend-returns : goal.nodes::extend-returns
+nodes::extend-returns t c =
+    let names = c.in_ok-names.names.items in
+    let slot = c.args.slot in
+    let attributes = pairs_view c.args.attributes.items in
+    inside_made (λ p qs. plans.extend p attributes slot qs) _ _ slot names (λ inner p qs among f g. extend_on names inner slot among p attributes qs f g) _ _ _ _ _ _ c.in_ok-names.ensures
+    (λ i. plans.extend (step_view (sym c.deref_mut.ensures.value i)) attributes slot (steps_are c.args.values i)) (ap (plans.extend (step_view c.all_inside.new.operand) attributes slot) (steps_are c.all_inside.new.steps))
+    (λ ps s. (s.0, parts_sound ps c.all_inside.new.steps s.1))
+
+pub nodes::summarize_by-returns : goal.nodes::summarize_by-returns
+nodes::summarize_by-returns t c =
+    let names = c.in_ok-names.names.items in
+    let slot = c.args.slot in
+    let by = attributes_view c.args.by in
+    let attributes = pairs_view c.args.attributes.items in
+    let aggregates = c.args.aggregates.items in
+    inside_made (λ p qs. plans.summarize_by p by attributes aggregates slot qs) _ _ slot names
+    (λ inner p qs among f g. summarize_by_on names inner slot among p by attributes aggregates qs f g) _ _ _ _ _ _ c.in_ok-names.ensures
+    (λ i. plans.summarize_by (step_view (sym c.deref_mut.ensures.value i)) by attributes aggregates slot (steps_are c.args.values i))
+    (ap (plans.summarize_by (step_view c.all_inside.new.operand) by attributes aggregates slot) (steps_are c.all_inside.new.steps))
+    (λ ps s. (s.0, parts_sound ps c.all_inside.new.steps s.1))
+
+pub nodes::summarize_per-returns : goal.nodes::summarize_per-returns
+nodes::summarize_per-returns t c =
+    let names = c.in_ok-names.names.items in
+    let slot = c.args.slot in
+    let attributes = pairs_view c.args.attributes.items in
+    let aggregates = c.args.aggregates.items in
+    inside_both_made (λ p q qs. plans.summarize_per p q attributes aggregates slot qs) _ _ slot names
+    (λ inner p q qs among f g h. summarize_per_on names inner slot among p q attributes aggregates qs f g h) _ _ _ _ _ _ _ _ c.in_ok-names.ensures
+    (λ i. plans.summarize_per (step_view (sym c.deref_mut.ensures.value i)) (step_view (sym c.deref_mut-2.ensures.value i)) attributes aggregates slot (steps_are c.args.values i))
+    (ap (plans.summarize_per (step_view c.all_inside_both.new.operand) (step_view c.all_inside_both.new.per) attributes aggregates slot) (steps_are c.all_inside_both.new.steps))
+    (λ ps s. (s.0, s.1, parts_sound ps c.all_inside_both.new.steps s.2))
+
+pub named_step-select-requires : goal.named_step-select-requires
+named_step-select-requires t c =
+    let is = ap step_height c.in-Select.is in
+    let parts = parts_deep c.in-Select.parts in
+    (omega (arith, c.decreases, is, parts), tt)
+
+pub named_step-extend-requires : goal.named_step-extend-requires
+named_step-extend-requires t c =
+    let is = ap step_height c.in-Extend.is in
+    let parts = parts_deep c.in-Extend.values in
+    (omega (arith, c.decreases, is, parts), tt)
+
+pub named_step-summarize_by-requires : goal.named_step-summarize_by-requires
+named_step-summarize_by-requires t c =
+    let is = ap step_height c.in-SummarizeBy.is in
+    let parts = parts_deep c.in-SummarizeBy.values in
+    (omega (arith, c.decreases, is, parts), tt)
+
+pub named_step-summarize_per-requires : goal.named_step-summarize_per-requires
+named_step-summarize_per-requires t c =
+    let is = ap step_height c.in-SummarizePer.is in
+    let parts = parts_deep c.in-SummarizePer.values in
+    (omega (arith, c.decreases, is, parts), tt)
+

@@ -1,16 +1,17 @@
-use Rattle.std.proofs.Common.{◌∙◌, ◌∷◌, [], ap}
+use Rattle.std.proofs.Common.{◌∙◌, ap, subst}
 use Rattle.td_eval.specs.code.Sights.{tuples_in_hand, world_in}
-use Rattle.td_plan.proofs.Planned.{frames_of, inner_first, last_first, no_tuple, planned, planned_without}
+use Rattle.td_plan.proofs.HandSlots.{hand_slots}
+use Rattle.td_plan.specs.code.Hands.{slots_in, slots_lent}
 use Rattle.td_plan.specs.code.PlanViews.{plan_view}
+use Rattle.td_plan.specs.Plans.{plan_value}
+use Rattle.td_tree.specs.Outcomes.{Answers}
 use Rattle.td_plan.proofs.running.run_plan.run_plan_in.Goals as goal
 
-pub returns-in-Some : goal.returns-in-Some
-returns-in-Some g c = λ scope e is keeps hand.
-    planned (world_in c.args.around.now.env.now) scope (plan_view c.args.plan.now) e (tuples_in_hand c.args.around.now.env.now) keeps hand c.run_with.result is
-    (c.in-Some.tuple.now.now ∷ inner_first c.in-Some.others.now)
-    (ap inner_first c.in-Some.ensures.cases.0 ∙ last_first c.in-Some.others.now c.in-Some.tuple.now) c.run_with.ensures
-
-pub returns-in_ok-none-in-None : goal.returns-in_ok-none-in-None
-returns-in_ok-none-in-None g c = λ scope e is keeps hand.
-    planned_without (world_in c.args.around.now.env.now) scope (plan_view c.args.plan.now) e (tuples_in_hand c.args.around.now.env.now) keeps hand c.run_with-in-None.result is
-    (frames_of (c.in_ok-none-in-None.none ∷ [])) (ap inner_first (no_tuple c.args.around.now.env.now.tuples.now c.in-None.ensures.cases)) c.run_with-in-None.ensures
+pub returns : goal.returns
+returns g c = λ scope outcome is gives hand.
+    let env = c.args.around.now.env.now in
+    let w = world_in env in
+    subst (Answers (λ v. v) c.run_in.result)
+    (ap (λ s. plan_value w s (plan_view c.args.plan.now)) (ap slots_in c.deref.ensures.value ∙ c.in_ok-rows.ensures)
+    ∙ is w (tuples_in_hand env) (slots_lent env.tuples.now) gives hand (hand_slots env.tuples.now))
+    c.run_in.ensures
