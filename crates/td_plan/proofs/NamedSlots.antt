@@ -1,7 +1,7 @@
 -- Slots among others.
-use Rattle.std.proofs.Common.{◌≡◌, ◌<◌, ◌≤◌, ◌+◌, ◌⊎◌, ◌∷◌, ◌++◌, inl, inr, [], List, ℕ, arith, get_or, length, refl, subst, sym, take}
+use Rattle.std.proofs.Common.{◌≡◌, ◌<◌, ◌≤◌, ◌+◌, ◌⊎◌, ◌∷◌, ◌++◌, inl, inr, [], List, ℕ, arith, get_or, length, subst, take}
 use Rattle.std.proofs.lemmas.List.{take_more}
-use Rattle.std.proofs.lemmas.List.Elements.{Contains-append_left, Contains-push, Contains-push_cases}
+use Rattle.std.proofs.lemmas.List.Elements.{Contains-append_left, Contains-push_cases}
 use Rattle.std.specs.List.{Contains}
 use Rattle.td_plan.specs.code.Remembered.{AreAllAmong, AreAmong, AreAmongBut, AreBefore}
 

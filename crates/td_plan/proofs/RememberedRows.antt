@@ -3,11 +3,10 @@ use Rattle.std.proofs.Common.{◌≡◌, ◌∙◌, ◌<◌, ◌≤◌, ◌+◌,
 use Rattle.std.proofs.lemmas.List.{drop_more}
 use Rattle.std.specs.Global.{Vec}
 use Rattle.std.specs.Prelude.{max}
-use Rattle.td_plan.specs.declared.plan.step.Selector.{Selector}
 use Rattle.td_plan.specs.declared.plan.step.Selector.TheVariants as selectors
 use Rattle.td_plan.specs.declared.plan.step.Step.{Step, Row_of-Step, end_of-Step, more_of-Step, items-the_row-Step, items_hidden-the_row-Step-0}
 use Rattle.td_plan.specs.declared.plan.step.Step.TheVariants as p
-use Rattle.td_plan.specs.code.Memos.{AreSound, IsSound, IsSoundRow, Parts}
+use Rattle.td_plan.specs.code.Memos.{AreSound, IsSoundRow, Parts}
 use Rattle.td_plan.specs.code.StepHeights.{row_height, step_height, steps_height}
 
 abbrev part_row : Step → (n : _) × Row_of-Step n

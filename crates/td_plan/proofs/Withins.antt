@@ -9,7 +9,7 @@ use Rattle.td_eval.specs.OperatorValues.{on_relation, on_truth, postfix_value, r
 use Rattle.td_eval.specs.Worlds.{World, known_outcome}
 use Rattle.td_group.specs.declared.aggregates.Agg.{Agg}
 use Rattle.td_plan.specs.Plans as plans
-use Rattle.td_plan.specs.Plans.{PlanTree, PlanTrees, Slots, dyadic_value, extension_of, looked_up, monadic_value, plan_columns, plan_value, plan_values, selected_value, summary_of, value_or, with_slot}
+use Rattle.td_plan.specs.Plans.{PlanTree, PlanTrees, Slots, dyadic_value, extension_of, looked_up, monadic_value, plan_columns, plan_value, selected_value, summary_of, value_or, with_slot}
 use Rattle.td_plan.specs.code.Memos.{AgreeOn, AreOn, IsOn, IsWithin}
 use Rattle.td_plan.specs.code.Remembered.{AreAmong, AreAmongBut, AreBefore}
 use Rattle.td_tree.specs.declared.operator.Aggregate.{Aggregate}

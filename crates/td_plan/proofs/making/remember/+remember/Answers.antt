@@ -1,6 +1,5 @@
 use Rattle.std.proofs.Common.{◌≡◌, ◌∙◌, ◌<◌, ◌≤◌, ◌+◌, ◌++◌, ◌∷◌, [], List, ap, arith, length, map, refl, slice_set, subst, sym, take, ℕ}
 use Rattle.std.proofs.lemmas.List.{length-map, map_push}
-use Rattle.std.proofs.lemmas.Result.{IfOk-weaker}
 use Rattle.std.specs.Global.{Vec}
 use Rattle.td_plan.proofs.EachStep.{each_all, each_next}
 use Rattle.td_plan.proofs.Remembering.{all_made, all_remembered, among_but_more, inside_both_made, inside_both_remembered, inside_made, inside_remembered, kept_view, leaf_remembered, listed, ok_by_both, one_remembered, three_made, three_remembered, two_placed, two_remembered}
@@ -8,10 +7,10 @@ use Rattle.td_plan.proofs.RememberedRows.{part_deep, parts_deep, parts_sound}
 use Rattle.td_plan.proofs.StepRows.{select_is, steps_are}
 use Rattle.td_plan.proofs.Withins.{aggregate_on, attribute_on, choice_on, dyadic_on, extend_on, look_up_on, monadic_on, on_more, restriction_on, select_on, summarize_by_on, summarize_per_on}
 use Rattle.td_plan.specs.Plans as plans
-use Rattle.td_plan.specs.code.Memos.{IsOn, IsSound}
+use Rattle.td_plan.specs.code.Memos.{IsOn}
 use Rattle.td_plan.specs.code.Remembered.{AreAllAmong, AreAmong, AreAmongBut, AreEachKept, AreEachRemembered, IsRemembered, KeepsPart}
-use Rattle.td_plan.specs.code.StepHeights.{step_height, steps_height}
-use Rattle.td_plan.specs.code.StepViews.{dyadic_view, monadic_view, selector_view, step_view, steps_view}
+use Rattle.td_plan.specs.code.StepHeights.{step_height}
+use Rattle.td_plan.specs.code.StepViews.{dyadic_view, monadic_view, selector_view, step_view}
 use Rattle.td_tree.specs.code.TreeViews.{attributes_view}
 use Rattle.td_types.specs.code.Views.{pairs_view}
 use Rattle.td_plan.proofs.making.remember.+remember.Goals as goal

@@ -1,4 +1,4 @@
-use Rattle.std.proofs.Common.{◌≡◌, ◌∙◌, ◌<◌, ◌++◌, ◌+◌, ◌∷◌, [], ◌≤◌, ap, arith, drop, get_or, length, map, slice_set, subst, sym, take, ℕ}
+use Rattle.std.proofs.Common.{◌≡◌, ◌∙◌, ◌<◌, ◌++◌, ◌+◌, ◌∷◌, [], ◌≤◌, ap, arith, get_or, length, map, slice_set, subst, sym, take, ℕ}
 use Rattle.std.proofs.lemmas.List.{map_more, take_all}
 use Rattle.std.specs.Global.{Vec}
 use Rattle.td_plan.proofs.EachStep.{each_all, each_next}

@@ -1,4 +1,4 @@
-use Rattle.std.proofs.Common.{◌+◌, ◌^◌, ◌-◌, ◌<◌, ◌≤◌, ◌≡◌, ℕ, arith, get_or, length, min, subst, sym, take}
+use Rattle.std.proofs.Common.{◌^◌, ◌-◌, ◌<◌, ◌≤◌, ◌≡◌, arith, get_or, subst}
 use Rattle.std.proofs.lemmas.List.{take_all}
 use Rattle.td_plan.proofs.NamedSlots.{before_next}
 use Rattle.td_plan.specs.code.Remembered.{AreBefore}

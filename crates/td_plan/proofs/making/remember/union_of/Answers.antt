@@ -1,4 +1,4 @@
-use Rattle.std.proofs.Common.{◌++◌, ◌+◌, ◌∷◌, [], List, ap, map, subst, sym, take, ◌∙◌, ◌≡◌, ℕ}
+use Rattle.std.proofs.Common.{◌++◌, ◌+◌, ◌∷◌, [], ap, map, subst, sym, take, ◌∙◌, ◌≡◌, ℕ}
 use Rattle.std.proofs.lemmas.List.{map_more, take_all}
 use Rattle.std.specs.Global.{Vec}
 use Rattle.td_plan.proofs.NamedSlots.{all_among_next}
