@@ -17,7 +17,6 @@ pub mod NamedSlots
 pub mod NarrowedOperands
 pub mod PlacedLaws
 pub mod Places
-pub mod Planned
 pub mod PlannedAnswers
 pub mod PlannedBelow
 pub mod PlannedClosed
@@ -37,7 +36,6 @@ pub mod SoundSteps
 pub mod StepHeights
 pub mod StepParts
 pub mod StepRows
-pub mod StepWeights
 pub mod SummaryLaws
 pub mod TotalConditions
 pub mod TreeWeights

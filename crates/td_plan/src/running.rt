@@ -3,6 +3,7 @@ mod counted;
 pub(crate) mod evaluator;
 mod extended;
 pub(crate) mod hand;
+mod items;
 mod look_up;
 mod loops;
 pub(crate) mod memo;

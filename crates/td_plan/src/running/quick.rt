@@ -177,10 +177,12 @@ pub(crate) fn quick_number(memo: &Memo, hand: &Hand<'_, '_>, step: &Step) -> Opt
                 Some(y) => numbers_operated(*op, x, y),
             },
         },
-        Step::Monadic(Monadic::Prefix(Prefix::Negate), operand) => match quick_number(memo, hand, operand) {
-            None => None,
-            Some(x) => negative_of(x),
-        },
+        Step::Monadic(Monadic::Prefix(Prefix::Negate), operand) => {
+            match quick_number(memo, hand, operand) {
+                None => None,
+                Some(x) => negative_of(x),
+            }
+        }
         _ => number_in(quick_value(&*memo, &*hand, &*step)),
     }
 }
@@ -189,7 +191,11 @@ pub(crate) fn quick_number(memo: &Memo, hand: &Hand<'_, '_>, step: &Step) -> Opt
 
 /// The text that is a step's value, lent by the step or a tuple in scope.
 #[inline]
-pub(crate) fn quick_text<'h>(memo: &'h Memo, hand: &'h Hand<'_, '_>, step: &'h Step) -> Option<&'h str>
+pub(crate) fn quick_text<'h>(
+    memo: &'h Memo,
+    hand: &'h Hand<'_, '_>,
+    step: &'h Step,
+) -> Option<&'h str>
     ensures { (ps : Parts) (w : World) → IsSound ps step.now
         → IsMemo ps w (slots_of hand.now) memo.now
         → IsQuick (λ t. char t.now) result (step_value w (slots_of hand.now) step.now) }
@@ -232,7 +238,13 @@ fn texts_compared(op: Comparison, s: &str, t: &str) -> Option<bool>
 }
 
 /// The truth value of a comparison of steps whose values are texts.
-fn quick_texts(memo: &Memo, hand: &Hand<'_, '_>, left: &Step, op: Comparison, right: &Step) -> Option<bool>
+fn quick_texts(
+    memo: &Memo,
+    hand: &Hand<'_, '_>,
+    left: &Step,
+    op: Comparison,
+    right: &Step,
+) -> Option<bool>
     ensures { (ps : Parts) (w : World) → IsSound ps left.now → IsSound ps right.now
         → IsMemo ps w (slots_of hand.now) memo.now
         → IsQuick boolean result (with_both (step_value w (slots_of hand.now) left.now)
@@ -250,7 +262,8 @@ fn quick_texts(memo: &Memo, hand: &Hand<'_, '_>, left: &Step, op: Comparison, ri
 /// The truth value of a comparison of steps whose values are numbers or texts.
 #[inline]
 fn quick_comparison(
-    memo: &Memo, hand: &Hand<'_, '_>,
+    memo: &Memo,
+    hand: &Hand<'_, '_>,
     left: &Step,
     op: Comparison,
     right: &Step,
@@ -288,7 +301,9 @@ pub(crate) fn quick_truth(memo: &Memo, hand: &Hand<'_, '_>, step: &Step) -> Opti
         → IsQuick boolean result (step_value w (slots_of hand.now) step.now) }
 {
     match step {
-        Step::Dyadic(left, Dyadic::Comparison(op), right) => quick_comparison(memo, hand, left, *op, right),
+        Step::Dyadic(left, Dyadic::Comparison(op), right) => {
+            quick_comparison(memo, hand, left, *op, right)
+        }
         Step::Dyadic(left, Dyadic::Operator(op), right) => match quick_truth(memo, hand, left) {
             None => None,
             Some(a) => match quick_truth(memo, hand, right) {
@@ -296,10 +311,12 @@ pub(crate) fn quick_truth(memo: &Memo, hand: &Hand<'_, '_>, step: &Step) -> Opti
                 Some(b) => truths_operated(*op, a, b),
             },
         },
-        Step::Monadic(Monadic::Prefix(Prefix::Not), operand) => match quick_truth(memo, hand, operand) {
-            None => None,
-            Some(b) => Some(!b),
-        },
+        Step::Monadic(Monadic::Prefix(Prefix::Not), operand) => {
+            match quick_truth(memo, hand, operand) {
+                None => None,
+                Some(b) => Some(!b),
+            }
+        }
         _ => truth_in(quick_value(&*memo, &*hand, &*step)),
     }
 }

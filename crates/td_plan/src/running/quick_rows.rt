@@ -267,7 +267,8 @@ fn truths_of_both(
 fn negations(alloc: Global, truths: &[bool]) -> Result<Vec<bool>, AllocError>
     ensures { IfOk result (λ negations. (f : Tuple → Outcome Val) (ts : List Tuple)
         → AreInRows boolean f ts truths.now
-        → AreInRows boolean (λ t. with_value (f t) (prefix_value prefixes.Not)) ts negations.items) }
+        → AreInRows boolean (λ t. with_value (f t) (prefix_value prefixes.Not)) ts
+        negations.items) }
 {
     let mut negations = Vec::with_capacity(alloc, truths.len())?;
     for truth in truths {

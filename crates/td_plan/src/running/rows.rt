@@ -1,6 +1,6 @@
 //! What plans give in each tuple of a relation.
-ghost use Rattle.std.specs.Prelude.{◌≡◌, ◌<◌, ◌≤◌, List, Some, length, map, suc, ⊤};
-ghost use Rattle.std.specs.List.{slice_get, zip};
+ghost use Rattle.std.specs.Prelude.{◌≡◌, length, map, suc, ⊤};
+ghost use Rattle.std.specs.List.{zip};
 ghost use Rattle.td_algebra.specs.Columns.{columns_view};
 ghost use Rattle.td_eval.specs.code.NewColumns.{named_columns};
 ghost use Rattle.td_eval.specs.OperatorValues.{column_values, truth_value};
@@ -11,13 +11,13 @@ ghost use Rattle.td_plan.specs.code.Memos.{Keeps, KeepsBelow};
 ghost use Rattle.td_plan.specs.code.Runs.{step_value, truths_in, value_in, values_in};
 ghost use Rattle.td_plan.specs.code.StepHeights.{step_height, steps_height};
 ghost use Rattle.td_plan.specs.code.ValuesBelow.{ValuesBelow};
-ghost use Rattle.td_tree.specs.Outcomes.{Answers, Outcome, Valued, gathered, with_value};
+ghost use Rattle.td_tree.specs.Outcomes.{Answers, gathered};
 ghost use Rattle.td_types.specs.code.Views.{pairs_view, type_view};
-ghost use Rattle.td_value.specs.Values.{Val};
 
 use crate::plan::step::Step;
 use crate::running::evaluator::{Evaluator, InWorld};
 use crate::running::hand::{Hand, Inside, hand_inside};
+use crate::running::items::{aggregate_at, item_count, with_aggregate};
 use crate::running::memo::{Memo, forget};
 use crate::running::quick::{quick_number, quick_truth};
 use crate::running::quick_rows::{FEWEST, quick_truths};
@@ -367,37 +367,4 @@ where
         }
         causes.finish(totals)
     }
-}
-
-/// The aggregate with the values that it is of in each group.
-fn with_aggregate(
-    asked: Agg,
-    groups: Result<Vec<Vec<Value>>, Fault>,
-) -> Result<(Agg, Vec<Vec<Value>>), Fault>
-    ensures { (o : Outcome (List (List Val)))
-        → Answers (λ vss. map (λ vs. vs.items) vss.items) groups o
-        → Answers total_view result (with_value o (λ vss. Valued (asked, vss))) }
-{
-    Ok((asked, groups?))
-}
-
-/// How many aggregates have a step beside them.
-pub(crate) fn item_count(aggregates: &[Agg], steps: &[Step]) -> usize
-    ensures count { result ≡ length (zip aggregates.now steps.now) }
-    ensures aggregates { result ≤ length aggregates.now }
-    ensures steps { result ≤ length steps.now }
-{
-    if aggregates.len() < steps.len() {
-        aggregates.len()
-    } else {
-        steps.len()
-    }
-}
-
-/// The aggregate at a place.
-fn aggregate_at(aggregates: &[Agg], place: usize) -> Agg
-    requires { place < length aggregates.now }
-    ensures { slice_get aggregates.now place ≡ Some result }
-{
-    aggregates[place]
 }
