@@ -1,5 +1,5 @@
 -- Plans of steps that were made.
-use Rattle.std.proofs.Common.{◌≡◌, ◌∙◌, ◌∷◌, [], List, ap, length, map, refl, sym, subst, suc}
+use Rattle.std.proofs.Common.{◌≡◌, ◌∙◌, List, ap, length, refl, sym, subst, suc}
 use Rattle.std.proofs.lemmas.Bool.{eq-eqb}
 use Rattle.std.proofs.lemmas.List.{length-map}
 use Rattle.std.specs.declared.alloc.AllocError.{AllocError}

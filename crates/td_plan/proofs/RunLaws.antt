@@ -1,9 +1,9 @@
 -- What the run of plans goes through.
-use Rattle.std.proofs.Common.{◌≡◌, ◌∙◌, ◌≢◌, ap, sym, refl, subst, List, [], ◌∷◌, map, Result, Ok, Err, true, false, Bool, ℕ, zero, suc, ◌<◌, ◌≤◌, length, get_or, arith}
-use Rattle.std.proofs.lemmas.Bool.{eq-eqb, eqb-true, ne_eqb}
+use Rattle.std.proofs.Common.{◌≡◌, ◌∙◌, ◌≢◌, ap, sym, refl, subst, List, [], ◌∷◌, map, Result, Ok, Err, Bool, ℕ, zero, suc, ◌<◌, ◌≤◌, length, get_or, arith}
+use Rattle.std.proofs.lemmas.Bool.{eq-eqb, ne_eqb}
 use Rattle.std.specs.Global.{Vec}
 use Rattle.std.specs.List.{zip}
-use Rattle.std.specs.Prelude.{IfOk, nat_eq}
+use Rattle.std.specs.Prelude.{IfOk}
 use Rattle.td_algebra.specs.Columns.{NamedColumn, columns_view}
 use Rattle.td_algebra.specs.declared.extension.Column.{Column}
 use Rattle.td_eval.proofs.code_lemmas.Selectors.{other_scope}
@@ -22,7 +22,7 @@ use Rattle.td_plan.specs.code.Runs.{step_value, step_values, value_in, values_in
 use Rattle.td_tree.specs.declared.cause.Cause.TheVariants as causes
 use Rattle.td_tree.specs.declared.fault.Fault.{Fault}
 use Rattle.td_tree.specs.declared.fault.Fault.TheVariants as faults
-use Rattle.td_tree.specs.Outcomes.{Answers, Outcome, Valued, Refused, Only, gathered, with_both, with_value}
+use Rattle.td_tree.specs.Outcomes.{Answers, Outcome, Valued, Refused, Only, gathered, with_value}
 use Rattle.td_types.specs.declared.ty.Ty.{Ty}
 use Rattle.td_types.specs.Types.{Attribute}
 use Rattle.td_types.specs.code.Views.{pairs_view, type_view}

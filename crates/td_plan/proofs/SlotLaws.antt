@@ -7,7 +7,6 @@ use Rattle.std.proofs.lemmas.Bool.{eq-eqb, eqb-false, eqb-true}
 use Rattle.td_plan.specs.code.Hands.{cells_at, cells_lent, cells_of, slots_in, slots_lent}
 use Rattle.td_plan.specs.code.Memos.{AgreeBelow}
 use Rattle.td_plan.specs.Plans.{Slots, with_slot}
-use Rattle.td_value.specs.code.Views.{values_of}
 use Rattle.td_value.specs.Values.{Tuple, Val}
 
 unequal : (a b : ℕ) → (a ≡ b → ⊥) → nat_eq a b ≡ false

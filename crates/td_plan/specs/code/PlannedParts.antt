@@ -5,7 +5,7 @@ use Rattle.std.specs.Prelude.{◌≡◌, ℕ, true, IfOk, List, [], ◌∷◌, O
 use Rattle.td_check.specs.Scopes.{Scope}
 use Rattle.td_plan.specs.declared.making.in_tuples.NewColumns.{NewColumns}
 use Rattle.td_plan.specs.declared.plan.step.Step.{Step}
-use Rattle.td_plan.specs.Plans.{PlanTree, PlanTrees, none, more}
+use Rattle.td_plan.specs.Plans.{PlanTrees, none, more}
 use Rattle.td_plan.specs.PlansOf.{IsPlanOfTyped}
 use Rattle.td_plan.specs.code.StepViews.{step_view, steps_view}
 use Rattle.td_tree.specs.declared.expression.NamedExpr.{NamedExpr}

@@ -137,5 +137,9 @@ pub(crate) fn plan_settings<B: Body>(
         add_names(alloc, env.catalog, &part.value, &mut names)?;
     }
     let planner = planner_in(alloc, env)?;
-    plan_by(alloc, settings_step(&planner, rel, attributes, parts), names)
+    plan_by(
+        alloc,
+        settings_step(&planner, rel, attributes, parts),
+        names,
+    )
 }

@@ -11,8 +11,10 @@ ghost use Rattle.td_plan.specs.code.StepViews.{step_view};
 
 mod nodes;
 
-use crate::making::remember::nodes::{aggregate, choice, dyadic, extend, look_up, monadic};
-use crate::making::remember::nodes::{restriction, select, summarize_by, summarize_per};
+use crate::making::remember::nodes::{
+    aggregate, choice, dyadic, extend, look_up, monadic, restriction, select, summarize_by,
+    summarize_per,
+};
 use crate::plan::step::Step;
 use std::alloc::{AllocError, Global};
 use std::mem;
@@ -92,12 +94,7 @@ fn reach_of(names: &[usize]) -> usize
 // ---- parts
 
 /// Keeps the answer of a step, which names no slot from the reach on, at the next place.
-fn keep(
-    alloc: Global,
-    places: &mut usize,
-    step: &mut Step,
-    reach: usize,
-) -> Result<(), AllocError>
+fn keep(alloc: Global, places: &mut usize, step: &mut Step, reach: usize) -> Result<(), AllocError>
     ensures { OnOk result ((names : List ℕ) → AreBefore reach names
         → KeepsPart places.old places.new names step.old step.new) }
 {
@@ -118,7 +115,11 @@ fn has_work(step: &Step) -> bool {
         Step::Constant(_) => false,
         Step::Refused(_) => false,
         Step::Attribute { slot: _, place: _ } => false,
-        Step::Once { place: _, reach: _, part: _ } => false,
+        Step::Once {
+            place: _,
+            reach: _,
+            part: _,
+        } => false,
         _ => true,
     }
 }
@@ -192,12 +193,24 @@ fn named_step(alloc: Global, places: &mut usize, step: Step) -> Result<NamedStep
 {
     let none = Vec::new(alloc);
     match step {
-        Step::Constant(value) => Ok(NamedStep { step: Step::Constant(value), names: none }),
-        Step::Refused(cause) => Ok(NamedStep { step: Step::Refused(cause), names: none }),
-        Step::Relvar(name) => Ok(NamedStep { step: Step::Relvar(name), names: none }),
+        Step::Constant(value) => Ok(NamedStep {
+            step: Step::Constant(value),
+            names: none,
+        }),
+        Step::Refused(cause) => Ok(NamedStep {
+            step: Step::Refused(cause),
+            names: none,
+        }),
+        Step::Relvar(name) => Ok(NamedStep {
+            step: Step::Relvar(name),
+            names: none,
+        }),
         Step::Attribute { slot, place } => {
             let names = one(alloc, slot)?;
-            Ok(NamedStep { step: Step::Attribute { slot, place }, names })
+            Ok(NamedStep {
+                step: Step::Attribute { slot, place },
+                names,
+            })
         }
         Step::LookUp(relvar, key, operand) => look_up(alloc, places, relvar, key, operand),
         Step::Monadic(op, operand) => monadic(alloc, places, op, operand),
@@ -213,15 +226,23 @@ fn named_step(alloc: Global, places: &mut usize, step: Step) -> Result<NamedStep
             aggregate(alloc, places, op, operand, slot, body)
         }
         Step::SummarizePer(operand, per, attributes, aggregates, slot, values) => {
-            summarize_per(alloc, places, operand, per, attributes, aggregates, slot, values)
+            summarize_per(
+                alloc, places, operand, per, attributes, aggregates, slot, values,
+            )
         }
         Step::SummarizeBy(operand, by, attributes, aggregates, slot, values) => {
-            summarize_by(alloc, places, operand, by, attributes, aggregates, slot, values)
+            summarize_by(
+                alloc, places, operand, by, attributes, aggregates, slot, values,
+            )
         }
         Step::If(condition, consequent, alternative) => {
             choice(alloc, places, condition, consequent, alternative)
         }
-        Step::Once { place: _, reach: _, part } => named_step(alloc, places, Box::into_inner(part)),
+        Step::Once {
+            place: _,
+            reach: _,
+            part,
+        } => named_step(alloc, places, Box::into_inner(part)),
     }
 }
 

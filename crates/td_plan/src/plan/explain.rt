@@ -86,7 +86,11 @@ impl Outline {
                 self.one(inner, "THEN", consequent)?;
                 self.one(inner, "ELSE", alternative)
             }
-            Step::Once { place: _, reach: _, part } => self.one(indent, "ONCE", part),
+            Step::Once {
+                place: _,
+                reach: _,
+                part,
+            } => self.one(indent, "ONCE", part),
         }
     }
 

@@ -54,7 +54,10 @@ pub enum Step {
     /// What has no value, for that cause.
     Refused(Cause),
     /// The attribute at a place of the tuple in a slot.
-    Attribute { slot: usize, place: usize },
+    Attribute {
+        slot: usize,
+        place: usize,
+    },
     Relvar(Name),
     /// The tuples of a base relvar that agree on a key of these names with a tuple.
     LookUp(Name, Vec<Name>, Box<Step>),
@@ -71,5 +74,9 @@ pub enum Step {
     If(Box<Step>, Box<Step>, Box<Step>),
     /// A part that names no slot from the reach on. Its answer is kept, at the place, until a tuple
     /// comes into a slot before the reach.
-    Once { place: usize, reach: usize, part: Box<Step> },
+    Once {
+        place: usize,
+        reach: usize,
+        part: Box<Step>,
+    },
 }

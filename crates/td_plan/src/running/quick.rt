@@ -44,11 +44,7 @@ fn lent_attribute<'h>(hand: &'h Hand<'_, '_>, slot: usize, place: usize) -> Opti
 
 /// The value of a step that is a constant, an attribute or a part whose answer is kept.
 #[inline]
-fn quick_value<'h>(
-    memo: &'h Memo,
-    hand: &'h Hand<'_, '_>,
-    step: &'h Step,
-) -> Option<&'h Value>
+fn quick_value<'h>(memo: &'h Memo, hand: &'h Hand<'_, '_>, step: &'h Step) -> Option<&'h Value>
     ensures { (ps : Parts) (w : World) → IsSound ps step.now
         → IsMemo ps w (slots_of hand.now) memo.now
         → IsQuick (λ v. v.now) result (step_value w (slots_of hand.now) step.now) }
@@ -56,7 +52,11 @@ fn quick_value<'h>(
     match step {
         Step::Constant(value) => Some(value),
         Step::Attribute { slot, place } => lent_attribute(hand, *slot, *place),
-        Step::Once { place, reach: _, part: _ } => lent_answer(memo, *place),
+        Step::Once {
+            place,
+            reach: _,
+            part: _,
+        } => lent_answer(memo, *place),
         _ => None,
     }
 }

@@ -38,12 +38,7 @@ where
 {
     /// The value of a step in a tuple. A number is looked for without causes first.
     #[inline]
-    fn value_with(
-        &self,
-        memo: &mut Memo,
-        hand: &Hand<'_, '_>,
-        step: &Step,
-    ) -> Result<Value, Fault>
+    fn value_with(&self, memo: &mut Memo, hand: &Hand<'_, '_>, step: &Step) -> Result<Value, Fault>
         requires below { ValuesBelow A.world self.now (suc (step_height step.now)) F.pre F.post }
         requires ready { IsReady (A.world self.now.around.now) (slots_of hand.now) memo.old
             (λ ps. IsSound ps step.now) }

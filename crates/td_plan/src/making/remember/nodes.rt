@@ -3,8 +3,9 @@ ghost use Rattle.std.specs.Prelude.{IfOk};
 ghost use Rattle.td_plan.specs.code.Remembered.{IsRemembered};
 ghost use Rattle.td_plan.specs.declared.plan.step.Step.TheVariants as variants;
 
-use crate::making::remember::{NamedStep, all, all_inside, all_inside_both, both, inside};
-use crate::making::remember::{remember, three};
+use crate::making::remember::{
+    NamedStep, all, all_inside, all_inside_both, both, inside, remember, three,
+};
 use crate::plan::step::{Dyadic, Monadic, Origin, Selector, Step};
 use std::alloc::{AllocError, Global};
 use td_group::aggregates::Agg;
@@ -27,7 +28,10 @@ pub(crate) fn look_up(
 {
     let mut operand = operand;
     let names = remember(alloc, places, &mut operand)?;
-    Ok(NamedStep { step: Step::LookUp(relvar, key, operand), names })
+    Ok(NamedStep {
+        step: Step::LookUp(relvar, key, operand),
+        names,
+    })
 }
 
 /// An operator of one operand.
@@ -43,7 +47,10 @@ pub(crate) fn monadic(
 {
     let mut operand = operand;
     let names = remember(alloc, places, &mut operand)?;
-    Ok(NamedStep { step: Step::Monadic(op, operand), names })
+    Ok(NamedStep {
+        step: Step::Monadic(op, operand),
+        names,
+    })
 }
 
 /// An operator between two operands.
@@ -61,7 +68,10 @@ pub(crate) fn dyadic(
     let mut left = left;
     let mut right = right;
     let names = both(alloc, places, &mut left, &mut right)?;
-    Ok(NamedStep { step: Step::Dyadic(left, op, right), names })
+    Ok(NamedStep {
+        step: Step::Dyadic(left, op, right),
+        names,
+    })
 }
 
 /// What is made of parts.
@@ -77,7 +87,10 @@ pub(crate) fn select(
 {
     let mut parts = parts;
     let names = all(alloc, places, &mut parts)?;
-    Ok(NamedStep { step: Step::Select(selector, parts), names })
+    Ok(NamedStep {
+        step: Step::Select(selector, parts),
+        names,
+    })
 }
 
 /// A restriction.
@@ -96,7 +109,10 @@ pub(crate) fn restriction(
     let mut operand = operand;
     let mut body = body;
     let names = inside(alloc, places, &mut operand, slot, &mut body)?;
-    Ok(NamedStep { step: Step::Restriction(operand, slot, body, origin), names })
+    Ok(NamedStep {
+        step: Step::Restriction(operand, slot, body, origin),
+        names,
+    })
 }
 
 /// An extension.
@@ -115,7 +131,10 @@ pub(crate) fn extend(
     let mut operand = operand;
     let mut values = values;
     let names = all_inside(alloc, places, &mut operand, slot, &mut values)?;
-    Ok(NamedStep { step: Step::Extend(operand, attributes, slot, values), names })
+    Ok(NamedStep {
+        step: Step::Extend(operand, attributes, slot, values),
+        names,
+    })
 }
 
 /// An aggregate.
@@ -134,7 +153,10 @@ pub(crate) fn aggregate(
     let mut operand = operand;
     let mut body = body;
     let names = inside(alloc, places, &mut operand, slot, &mut body)?;
-    Ok(NamedStep { step: Step::Aggregate(op, operand, slot, body), names })
+    Ok(NamedStep {
+        step: Step::Aggregate(op, operand, slot, body),
+        names,
+    })
 }
 
 /// A summary by the tuples of another operand.
@@ -197,6 +219,15 @@ pub(crate) fn choice(
     let mut condition = condition;
     let mut consequent = consequent;
     let mut alternative = alternative;
-    let names = three(alloc, places, &mut condition, &mut consequent, &mut alternative)?;
-    Ok(NamedStep { step: Step::If(condition, consequent, alternative), names })
+    let names = three(
+        alloc,
+        places,
+        &mut condition,
+        &mut consequent,
+        &mut alternative,
+    )?;
+    Ok(NamedStep {
+        step: Step::If(condition, consequent, alternative),
+        names,
+    })
 }

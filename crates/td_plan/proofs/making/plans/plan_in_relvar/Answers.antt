@@ -1,4 +1,4 @@
-use Rattle.std.proofs.Common.{ap, subst}
+use Rattle.std.proofs.Common.{subst}
 use Rattle.std.proofs.lemmas.Result.{IfOk-weaker}
 use Rattle.td_plan.specs.PlansOf.{IsPlanOfTyped, scope_in}
 use Rattle.td_plan.specs.code.PlanViews.{plan_view}

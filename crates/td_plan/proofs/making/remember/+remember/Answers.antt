@@ -274,4 +274,3 @@ named_step-summarize_per-requires t c =
     let is = ap step_height c.in-SummarizePer.is in
     let parts = parts_deep c.in-SummarizePer.values in
     (omega (arith, c.decreases, is, parts), tt)
-

@@ -19,9 +19,10 @@ loop-other-preserved c =
     elim c.if-not-contains.branch [
       | then-not-contains+in_ok-push w ↦
           subst (λ ns. AreAmong c.args.names.now.items ns.items × AreAmong (take (i + 1) c.args.others.now) ns.items) (sym w.names-is)
-          (subst (λ ns. AreAmong c.args.names.now.items ns × AreAmong (take (i + 1) c.args.others.now) ns) (sym w.in_ok-push.ensures.items)
-          (among_more c.args.names.now.items so_far n c.loop-other.invariant.0,
-          among_next c.args.others.now (so_far ++ (n ∷ [])) i c.loop-other-test.true (among_more (take i c.args.others.now) so_far n c.loop-other.invariant.1) (Contains-push so_far n)))
+          (subst (λ ns. AreAmong c.args.names.now.items ns × AreAmong (take (i + 1) c.args.others.now) ns) (sym w.in_ok-push.ensures.items) (
+            among_more c.args.names.now.items so_far n c.loop-other.invariant.0,
+            among_next c.args.others.now (so_far ++ (n ∷ [])) i c.loop-other-test.true (among_more (take i c.args.others.now) so_far n c.loop-other.invariant.1) (Contains-push so_far n),
+          ))
       | else-not-contains w ↦
           subst (λ ns. AreAmong c.args.names.now.items ns.items × AreAmong (take (i + 1) c.args.others.now) ns.items) (sym w.names-is)
           (c.loop-other.invariant.0, among_next c.args.others.now so_far i c.loop-other-test.true c.loop-other.invariant.1 (let h = w.if-not-contains.ensures.cases in subst (λ xs. Contains xs n) c.deref.ensures.value (h.0, h.1, eqb-true _ _ (h.2 n))))

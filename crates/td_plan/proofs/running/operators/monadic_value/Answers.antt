@@ -1,4 +1,4 @@
-use Rattle.std.proofs.Common.{◌∙◌, ap, subst, sym}
+use Rattle.std.proofs.Common.{◌∙◌, subst, sym}
 use Rattle.std.specs.Rc.{rc_str_bytes}
 use Rattle.td_eval.specs.OperatorValues.{component_value}
 use Rattle.td_plan.proofs.RunLaws.{types_known}

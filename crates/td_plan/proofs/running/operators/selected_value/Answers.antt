@@ -1,4 +1,4 @@
-use Rattle.std.proofs.Common.{◌∙◌, refl, subst, sym}
+use Rattle.std.proofs.Common.{refl, subst, sym}
 use Rattle.td_eval.specs.OperatorValues.{headed_value}
 use Rattle.td_plan.specs.Plans.{selected_value}
 use Rattle.td_plan.specs.code.Hands.{world_around}

@@ -6,7 +6,7 @@ use Rattle.td_eval.proofs.code_lemmas.WalkedExtension.{related}
 use Rattle.td_plan.proofs.MemoLaws.{kept_outside, ready_below}
 use Rattle.td_plan.proofs.ValuedBelow.{lower}
 use Rattle.td_plan.specs.code.Hands.{slots_in, slots_of}
-use Rattle.td_value.specs.Values.{Relation, Tuple, Val}
+use Rattle.td_value.specs.Values.{Relation, Val}
 use Rattle.td_eval.specs.AggregateValues.{aggregated_value, asked_of}
 use Rattle.td_eval.specs.OperatorValues.{on_relation}
 use Rattle.td_plan.proofs.RunLaws.{unrelated}

@@ -1,4 +1,4 @@
-use Rattle.std.proofs.Common.{Err, ◌≡◌, ◌≢◌, arith, length, refl, rules, subst}
+use Rattle.std.proofs.Common.{◌≡◌, ◌≢◌, arith, length, refl, rules, subst}
 use Rattle.std.proofs.lemmas.List.{length-map}
 use Rattle.td_algebra.specs.Columns.{columns_view}
 use Rattle.td_eval.proofs.code_lemmas.WalkedExtension.{related}
@@ -55,8 +55,8 @@ set_by-requires g c =
     let count = as_many_columns w s c.args.slot c.args.values.now in
     let a = c.in_ok-operand.ensures r.parts r.sound.0 r.memo in
     let d = kept_outside w c.args.slot c.in_ok-inside.inside.slot s (slots_in c.in_ok-inside.inside.outer.items) c.entered.new.memo c.columns-columns.new.memo (λ ps. AreSound ps c.args.values.now)
-        (λ k t. Answers (λ cs. columns_view cs.items) c.columns-columns.result (gathered (named_columns attributes (values_in w t k c.args.values.now) c.rows.result.now)))
-        c.in_ok-inside.ensures.slot c.in_ok-inside.ensures.outer c.columns-columns.ensures r.parts r.sound.1 (c.in_ok-inside.ensures.memo r.parts w a.1) in
+    (λ k t. Answers (λ cs. columns_view cs.items) c.columns-columns.result (gathered (named_columns attributes (values_in w t k c.args.values.now) c.rows.result.now)))
+    c.in_ok-inside.ensures.slot c.in_ok-inside.ensures.outer c.columns-columns.ensures r.parts r.sound.1 (c.in_ok-inside.ensures.memo r.parts w a.1) in
     columns_for c.columns-columns.result attributes new c.in_ok-rel.rel.now.body (omega (arith, attribute_count, count))
     (subst (λ ts. Answers (λ cs. columns_view cs.items) c.columns-columns.result (gathered (named_columns attributes new ts))) c.rows.ensures.rows d.0)
 
@@ -71,8 +71,8 @@ returns g c = λ ps sound m.
     let equal : length attributes ≡ length new = omega (arith, attribute_count, count) in
     let a = c.in_ok-operand.ensures ps sound.0 m in
     let d = kept_outside w c.args.slot c.in_ok-inside.inside.slot s (slots_in c.in_ok-inside.inside.outer.items) c.entered.new.memo c.columns-columns.new.memo (λ ps. AreSound ps c.args.values.now)
-        (λ k t. Answers (λ cs. columns_view cs.items) c.columns-columns.result (gathered (named_columns attributes (values_in w t k c.args.values.now) c.rows.result.now)))
-        c.in_ok-inside.ensures.slot c.in_ok-inside.ensures.outer c.columns-columns.ensures ps sound.1 (c.in_ok-inside.ensures.memo ps w a.1) in (
+    (λ k t. Answers (λ cs. columns_view cs.items) c.columns-columns.result (gathered (named_columns attributes (values_in w t k c.args.values.now) c.rows.result.now)))
+    c.in_ok-inside.ensures.slot c.in_ok-inside.ensures.outer c.columns-columns.ensures ps sound.1 (c.in_ok-inside.ensures.memo ps w a.1) in (
       rw (a.0, related c.in_ok-operand.operand c.in_ok-rel.rel.now (extension_of attributes new) c.in_ok-rel.ensures, where_equal attributes new (extended_by_settings (Valued attributes) new c.in_ok-rel.rel.now) equal)
           (c.set_by.ensures new (omega (arith, count)) (subst (λ ts. Answers (λ cs. columns_view cs.items) c.columns-columns.result (gathered (named_columns attributes new ts))) c.rows.ensures.rows d.0)),
       d.1,

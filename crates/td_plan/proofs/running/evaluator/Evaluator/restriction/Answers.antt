@@ -6,7 +6,7 @@ use Rattle.td_eval.proofs.code_lemmas.WalkedExtension.{related}
 use Rattle.td_plan.proofs.MemoLaws.{kept_outside, ready_below}
 use Rattle.td_plan.proofs.ValuedBelow.{lower}
 use Rattle.td_plan.specs.code.Hands.{slots_in, slots_of}
-use Rattle.td_value.specs.Values.{Relation, Tuple, Val}
+use Rattle.td_value.specs.Values.{Relation, Val}
 use Rattle.td_eval.proofs.code_lemmas.WalkedLists.{of_as_many}
 use Rattle.td_eval.specs.OperatorValues.{on_relation, restricted_value, truth_value}
 use Rattle.td_plan.proofs.RunLaws.{unrelated}

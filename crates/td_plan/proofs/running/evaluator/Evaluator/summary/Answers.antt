@@ -78,8 +78,8 @@ summary_by-requires g c =
     let parted : groups r p ≡ gs = (value_of_test (is_part p.heading r.heading) (groups r p) gs causes.Heading c.in_ok-groups.ensures).1 in
     let found = map total_view c.deref-2.result.now in
     let d = kept_outside w of.slot c.in_ok-inside.inside.slot s (slots_in c.in_ok-inside.inside.outer.items) c.entered.new.memo c.totals.new.memo (λ ps. AreSound ps of.values.now)
-        (λ k t. gathered (map (total_of c.deref.result.now) (zip of.aggregates.now (values_in w t k of.values.now))) ≡ Valued (map total_view c.in_ok-totals.totals.items))
-        c.in_ok-inside.ensures.slot c.in_ok-inside.ensures.outer c.in_ok-totals.ensures ready.parts ready.sound (c.in_ok-inside.ensures.memo ready.parts w ready.memo) in
+    (λ k t. gathered (map (total_of c.deref.result.now) (zip of.aggregates.now (values_in w t k of.values.now))) ≡ Valued (map total_view c.in_ok-totals.totals.items))
+    c.in_ok-inside.ensures.slot c.in_ok-inside.ensures.outer c.in_ok-totals.ensures ready.parts ready.sound (c.in_ok-inside.ensures.memo ready.parts w ready.memo) in
     let totals : gathered (map (total_of (groups r p)) items) ≡ Valued found =
     rw (parted, c.deref-2.ensures.value) (subst (λ gs. gathered (map (total_of gs) items) ≡ Valued (map total_view c.in_ok-totals.totals.items)) c.deref.ensures.value d.0) in
     let many = as_many_totals (groups r p) items found totals in
@@ -103,8 +103,8 @@ returns-in_err-totals g c = λ ps sound m.
     let e = err_from_is_err_and c.from_residual-in_err-totals.result c.from_residual-in_err-totals.ensures.1 in
     let view = λ (ts : Vec (Agg × Vec (Vec Val))). map total_view ts.items in
     let d = kept_outside w of.slot c.in_ok-inside.inside.slot s (slots_in c.in_ok-inside.inside.outer.items) c.entered.new.memo c.totals.new.memo (λ ps. AreSound ps of.values.now)
-        (λ k t. Answers view (Err c.in_err-totals.field-0.0) (gathered (map (total_of c.deref.result.now) (zip of.aggregates.now (values_in w t k of.values.now)))))
-        c.in_ok-inside.ensures.slot c.in_ok-inside.ensures.outer c.in_err-totals.ensures ps sound (c.in_ok-inside.ensures.memo ps w m) in
+    (λ k t. Answers view (Err c.in_err-totals.field-0.0) (gathered (map (total_of c.deref.result.now) (zip of.aggregates.now (values_in w t k of.values.now)))))
+    c.in_ok-inside.ensures.slot c.in_ok-inside.ensures.outer c.in_err-totals.ensures ps sound (c.in_ok-inside.ensures.memo ps w m) in
     let totals = subst (λ gs. Answers view (Err c.in_err-totals.field-0.0) (gathered (map (total_of gs) items))) c.deref.ensures.value d.0 in (
       rw (e.1, e.2, where_equal attributes items (summary_value (λ h. Valued attributes) items c.args.operand.now c.args.per.now) equal, both_related c.args.operand.now c.args.per.now r p summary c.in_ok-rel.ensures)
           (totals_refused (Valued attributes) items r p gs c.in_ok-groups.ensures view c.in_err-totals.field-0.0 totals),
@@ -127,8 +127,8 @@ returns g c = λ ps sound m.
     let summary = λ (r : Relation) (p : Relation). summarized_value (Valued attributes) items r p in
     let found = map total_view c.in_ok-totals.totals.items in
     let d = kept_outside w of.slot c.in_ok-inside.inside.slot s (slots_in c.in_ok-inside.inside.outer.items) c.entered.new.memo c.totals.new.memo (λ ps. AreSound ps of.values.now)
-        (λ k t. gathered (map (total_of c.deref.result.now) (zip of.aggregates.now (values_in w t k of.values.now))) ≡ Valued found)
-        c.in_ok-inside.ensures.slot c.in_ok-inside.ensures.outer c.in_ok-totals.ensures ps sound (c.in_ok-inside.ensures.memo ps w m) in
+    (λ k t. gathered (map (total_of c.deref.result.now) (zip of.aggregates.now (values_in w t k of.values.now))) ≡ Valued found)
+    c.in_ok-inside.ensures.slot c.in_ok-inside.ensures.outer c.in_ok-totals.ensures ps sound (c.in_ok-inside.ensures.memo ps w m) in
     let totals : gathered (map (total_of gs) items) ≡ Valued found = subst (λ gs. gathered (map (total_of gs) items) ≡ Valued found) c.deref.ensures.value d.0 in
     let parted : groups r p ≡ gs = (value_of_test (is_part p.heading r.heading) (groups r p) gs causes.Heading c.in_ok-groups.ensures).1 in (
       rw (where_equal attributes items (summary_value (λ h. Valued attributes) items c.args.operand.now c.args.per.now) equal, both_related c.args.operand.now c.args.per.now r p summary c.in_ok-rel.ensures)

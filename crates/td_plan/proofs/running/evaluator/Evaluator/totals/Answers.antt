@@ -3,7 +3,6 @@ use Rattle.std.proofs.lemmas.Option.{get_or_from_slice_get}
 use Rattle.std.specs.Global.{Vec}
 use Rattle.std.specs.List.{zip}
 use Rattle.td_eval.proofs.code_lemmas.WalkedLists.{walked}
-use Rattle.td_eval.specs.AggregateValues.{Summand}
 use Rattle.td_eval.specs.code.Totals.{total_of, total_view}
 use Rattle.td_group.specs.declared.aggregates.Agg.{Agg}
 use Rattle.td_plan.proofs.SoundSteps.{sound_at}
@@ -11,7 +10,7 @@ use Rattle.td_plan.proofs.StepHeights.{height_part}
 use Rattle.td_plan.proofs.SummaryLaws.{as_many_items, item_at}
 use Rattle.td_plan.proofs.ValuedBelow.{lower}
 use Rattle.td_plan.specs.code.Hands.{slots_in}
-use Rattle.td_plan.specs.code.Runs.{value_in, values_in}
+use Rattle.td_plan.specs.code.Runs.{values_in}
 use Rattle.td_tree.proofs.code_lemmas.Gatherings.{collected_next}
 use Rattle.td_value.specs.Values.{Val}
 use Rattle.td_plan.proofs.running.evaluator.Evaluator.totals.Goals as goal

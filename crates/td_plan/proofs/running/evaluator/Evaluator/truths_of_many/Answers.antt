@@ -1,4 +1,3 @@
-use Rattle.std.proofs.Common.{subst}
 use Rattle.td_plan.proofs.QuickRows.{truths_gathered}
 use Rattle.td_plan.specs.code.QuickInside.{value_inside}
 use Rattle.td_plan.proofs.MemoLaws.{ready_still}
