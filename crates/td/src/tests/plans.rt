@@ -396,7 +396,11 @@ fn plans_as_a_person_reads_them(rt: HostRuntime) {
 
 /// Whether a look-up is read of the plan of an expression in which something may fail.
 fn has_look_up(alloc: Global, catalog: &Catalog<SortedBody>) -> Result<bool, Fault> {
-    let told = read(alloc, catalog, "SP WHERE SNO = 3 AND QTY = 7 AND 10 / QTY > 1")?;
+    let told = read(
+        alloc,
+        catalog,
+        "SP WHERE SNO = 3 AND QTY = 7 AND 10 / QTY > 1",
+    )?;
     let found = told.as_str().contains("LOOKUP");
     drop(told);
     Ok(found)
