@@ -1,5 +1,5 @@
-/* A shim over read: each read of standard input gives at most TD_PIECE bytes, out of a buffer of its
-   own, so that few of them are calls of the system. */
+/* A shim over read: each read of standard input gives at most TD_PIECE bytes, out of a buffer of
+   its own, so that few of them are calls of the system. */
 #define _GNU_SOURCE
 #include <stdlib.h>
 #include <string.h>

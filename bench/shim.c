@@ -1,6 +1,7 @@
-/* A shim over malloc and realloc. With TD_COUNT it says on standard error, for the time between the two looks at the clock
-   that came last: how many requests were made, by how many bytes what is held grew, and by how many its peak was higher.
-   With TD_REFUSE=N it refuses the request of the number N, and says on standard error whether that one came. */
+/* A shim over malloc and realloc. With TD_COUNT it says on standard error, for the time between the
+   two looks at the clock that came last: how many requests were made, by how many bytes what is
+   held grew, and by how many its peak was higher. With TD_REFUSE=N it refuses the request of the
+   number N, and says on standard error whether that one came. */
 #define _GNU_SOURCE
 #include <dlfcn.h>
 #include <errno.h>
@@ -66,6 +67,6 @@ __attribute__((constructor)) static void begin(void) {
 __attribute__((destructor)) static void end(void) {
     if (refused) fprintf(stderr, "%s\n", now.requests >= refused ? "refused" : "not reached");
     if (getenv("TD_COUNT"))
-        fprintf(stderr, "%ld %ld %ld\n", looked[1].requests - looked[0].requests, looked[1].held - looked[0].held,
-            looked[1].peak - looked[0].held);
+        fprintf(stderr, "%ld %ld %ld\n", looked[1].requests - looked[0].requests,
+            looked[1].held - looked[0].held, looked[1].peak - looked[0].held);
 }

@@ -127,8 +127,7 @@ class Definition:
         for *names, colon, kind in binders:
             if colon == ":" and self.variants(kind):
                 named.update(dict.fromkeys(names, self.variants(kind)))
-        for chosen in itertools.product(*named.values()):
-            yield dict(zip(named, chosen))
+        return [dict(zip(named, chosen)) for chosen in itertools.product(*named.values())]
 
     def symbol(self, family, index, known):
         """The symbol of a type. What a record holds to be not too high is spelled by its field."""

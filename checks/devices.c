@@ -1,7 +1,7 @@
-/* A shim over the reads of standard input and the writes of standard output. TD_PIECE: a read gives at
-   most so many bytes. TD_SHORT: a write takes at most so many. TD_READ and TD_WRITE: the read or the
-   write of this number fails. TD_AGAIN: before each read and each write so many are interrupted.
-   TD_SIZES: how many bytes each write was given is said on standard error. */
+/* A shim over the reads of standard input and the writes of standard output. TD_PIECE: a read gives
+   at most so many bytes. TD_SHORT: a write takes at most so many. TD_READ and TD_WRITE: the read or
+   the write of this number fails. TD_AGAIN: before each read and each write so many are
+   interrupted. TD_SIZES: how many bytes each write was given is said on standard error. */
 #define _GNU_SOURCE
 #include <errno.h>
 #include <stdio.h>

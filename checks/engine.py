@@ -1,4 +1,5 @@
-"""The engine's own tables, read from its source: reserved words, causes and the productions of the grammar."""
+"""The engine's tables, read from its source: reserved words, causes and the grammar's productions.
+"""
 import re
 from pathlib import Path
 
@@ -30,7 +31,8 @@ def causes():
 
 
 def productions():
-    """The names of the grammar's productions, which are the constructors of its definition, and the words of some."""
+    """The names of the grammar's productions, which are the constructors of its definition, and
+    those of the words for which some stand."""
     names = set()
     for file in GRAMMAR:
         names.update(found(TREE / "specs" / f"{file}.antt", r"^ {2,4}([a-z_]+) : "))

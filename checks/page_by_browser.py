@@ -26,6 +26,8 @@ WIDER = """document.documentElement.scrollWidth > innerWidth
         .filter(one => one.getBoundingClientRect().right > innerWidth + 1)
         .map(one => one.tagName + '.' + one.className).join()"""
 SOLUTION = "!!document.querySelector('.exercise details .editor')"
+# What has the focus, by its identifier, or else by its tag.
+FOCUS = "document.activeElement.id || document.activeElement.tagName"
 # What takes the focus and is no control: the document, and the parts to which F6 leads.
 NAMELESS = ("RootWebArea", "generic")
 # The least contrast of text that WCAG AA allows, and the colours of text and what they stand on.
@@ -297,16 +299,24 @@ def definitions_are_listed_and_shown():
         page.wait("document.querySelector('dialog img')?.naturalWidth > 0")
 
 
+def led_by_tab(page):
+    """What takes the focus, one after the other, when Tab is pressed, up to the editor."""
+    seen = []
+    while len(seen) < 14 and seen[-1:] != ["TEXTAREA"]:
+        page.press("Tab")
+        seen.append(page.value(FOCUS))
+    return seen
+
+
+def f6_leads_to(page, wanted):
+    page.press("F6")
+    expect(page.value(FOCUS), wanted, "F6 leads to")
+
+
 def the_keyboard_alone_suffices():
     with Opened() as page:
         page.value("document.activeElement.blur()")
-        focus = "document.activeElement.id || document.activeElement.tagName"
-        seen = []
-        for _ in range(14):
-            page.press("Tab")
-            seen.append(page.value(focus))
-            if seen[-1] == "TEXTAREA":
-                break
+        seen = led_by_tab(page)
         expect(seen[:2], ["to-script", "to-lessons"], "the order of Tab:")
         expect(seen[-1], "TEXTAREA", "Tab leads to")
         page.type("WRITE 1;")
@@ -317,11 +327,11 @@ def the_keyboard_alone_suffices():
         page.press("z", CONTROL)
         assert len(page.value("editor.text")) < 11, "what is typed is not undone"
         page.press("Tab")
-        assert page.value(focus) != "TEXTAREA", "Tab does not leave the editor"
+        assert page.value(FOCUS) != "TEXTAREA", "Tab does not leave the editor"
         page.click("#script textarea")
-        for wanted in ("answers-pane", "database", "TEXTAREA"):
-            page.press("F6")
-            expect(page.value(focus), wanted, "F6 leads to")
+        f6_leads_to(page, "answers-pane")
+        f6_leads_to(page, "database")
+        f6_leads_to(page, "TEXTAREA")
 
 
 def a_script_is_saved_opened_and_linked():
@@ -358,15 +368,27 @@ def a_closed_tab_ends_its_td():
     assert soon(lambda: not any(map(is_there, own))), "td goes on when its tab is closed"
 
 
+def fits_each_window(page, view):
+    for width, height in ((1200, 800), (900, 700), (400, 800), (320, 256)):
+        page.size(width, height)
+        expect(page.value(WIDER), False, f"{view} at {width}:")
+
+
 def nothing_is_wider_than_the_window():
     with Opened() as page:
         run_all(page, "WRITE S;\nWRITE S WHERE TOWN = 'York';\nWRITE SP GROUP ({SNO} AS T);", 3)
         for view in ("script", "lessons"):
             page.click(f"#to-{view}")
             page.wait(f"view === 'script' || !!document.querySelector('article')")
-            for width, height in ((1200, 800), (900, 700), (400, 800), (320, 256)):
-                page.size(width, height)
-                expect(page.value(WIDER), False, f"{view} at {width}:")
+            fits_each_window(page, view)
+
+
+def each_has_a_name(nodes):
+    for node in nodes:
+        known = {one["name"]: one["value"] for one in node.get("properties", [])}
+        role = node["role"]["value"]
+        if known.get("focusable", {}).get("value") and role not in NAMELESS:
+            assert node.get("name", {}).get("value"), node
 
 
 def all_that_takes_the_focus_has_a_name():
@@ -375,11 +397,7 @@ def all_that_takes_the_focus_has_a_name():
         for view in ("script", "lessons"):
             page.click(f"#to-{view}")
             page.wait("view === 'script' || !!document.querySelector('article')")
-            for node in page.ask("Accessibility.getFullAXTree")["nodes"]:
-                known = {one["name"]: one["value"] for one in node.get("properties", [])}
-                role = node["role"]["value"]
-                if known.get("focusable", {}).get("value") and role not in NAMELESS:
-                    assert node.get("name", {}).get("value"), node
+            each_has_a_name(page.ask("Accessibility.getFullAXTree")["nodes"])
 
 
 def luminance(colour):
@@ -393,16 +411,20 @@ def contrast(one, other):
     return (high + 0.05) / (low + 0.05)
 
 
+def texts_can_be_read(name, colours):
+    pairs = [(one, ground) for one in TEXTS for ground in ("ground", "raised", "bad-ground")]
+    for one, ground in [*pairs, ("on-accent", "accent"), ("on-mark", "mark")]:
+        told = contrast(colours[one], colours[ground])
+        assert told >= LEAST, f"{name}: {one} on {ground} has a contrast of {told:.2f}"
+
+
 def colours_can_be_told_apart():
     text = (TOP / "tools" / "td_tools" / "page.html").read_text(encoding="utf-8")
     found = re.findall(r":root \{(.*?)\}", text, re.DOTALL)
     themes = [dict(re.findall(r"--([\w-]+): (#[0-9a-f]{6})", one)) for one in found]
     expect(len(themes), 2, "themes:")
     for name, colours in zip(("light", "dark"), themes):
-        pairs = [(one, ground) for one in TEXTS for ground in ("ground", "raised", "bad-ground")]
-        for one, ground in [*pairs, ("on-accent", "accent"), ("on-mark", "mark")]:
-            told = contrast(colours[one], colours[ground])
-            assert told >= LEAST, f"{name}: {one} on {ground} has a contrast of {told:.2f}"
+        texts_can_be_read(name, colours)
         assert contrast(colours["edge"], colours["ground"]) >= 3, f"{name}: edge"
 
 

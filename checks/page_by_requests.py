@@ -33,6 +33,12 @@ def expect(given, wanted, what=""):
     assert given == wanted, f"{what} {given!r} in place of {wanted!r}".strip()
 
 
+def expect_of_each(status, ask, every):
+    """What is asked of each of these is answered with the status."""
+    for one in every:
+        expect(ask(one)[0], status, one)
+
+
 # ---- whose request it is
 
 def the_secret_is_asked_for():
@@ -65,8 +71,8 @@ def no_other_page_is_answered():
                    f"http://{own}.evil.example", ""):
         expect(page().asked(home + "begin", {}, Origin=origin)[0], 403, f"Origin {origin}")
         expect(page().asked(home, Origin=origin)[0], 403, f"Origin {origin}")
-    for site in ("cross-site", "same-site"):
-        expect(page().asked(home + "begin", {}, Sec_Fetch_Site=site)[0], 403, site)
+    expect_of_each(403, lambda site: page().asked(home + "begin", {}, Sec_Fetch_Site=site),
+                   ("cross-site", "same-site"))
     own = {"Origin": f"http://{own}", "Sec_Fetch_Site": "same-origin"}
     expect(page().asked(home + "listed", {"tab": "x"}, **own)[0], 410)
 
@@ -87,13 +93,13 @@ def what_is_too_long_is_refused():
 
 def what_is_not_there_is_refused():
     home = f"/{page().secret}/"
-    for path in ("../", "../../etc/passwd", "..%2f..%2fetc/passwd", "page.html", "tools/page",
-                 "begin", "?x", "/", "\\..\\", "//etc/passwd"):
-        expect(page().asked(home + path)[0], 404, path)
-    for path in ("/../", "/../../etc/passwd", "/etc/passwd", "http://evil.example/"):
-        expect(page().asked(path)[0], 403, path)
-    for name in ("nothing", "", "../begin", "begin/", "__init__", "answers"):
-        expect(page().asked(home + name, {})[0], 404, name)
+    inner = ("../", "../../etc/passwd", "..%2f..%2fetc/passwd", "page.html", "tools/page",
+             "begin", "?x", "/", "\\..\\", "//etc/passwd")
+    expect_of_each(404, lambda path: page().asked(home + path), inner)
+    outer = ("/../", "/../../etc/passwd", "/etc/passwd", "http://evil.example/")
+    expect_of_each(403, page().asked, outer)
+    names = ("nothing", "", "../begin", "begin/", "__init__", "answers")
+    expect_of_each(404, lambda name: page().asked(home + name, {}), names)
 
 
 def what_is_no_question_is_refused():
@@ -103,17 +109,21 @@ def what_is_no_question_is_refused():
     expect(page().asked(home + "begin", {}, Content_Type="text/plain")[0], 415)
     form = "application/x-www-form-urlencoded"
     expect(page().asked(home + "begin", {}, Content_Type=form)[0], 415)
-    for fields in ({}, {"tab": 1}, {"tab": None}, {"tab": []}):
-        expect(page().posted("run", **fields)[0], 400, fields)
+    tabs = ({}, {"tab": 1}, {"tab": None}, {"tab": []})
+    expect_of_each(400, lambda fields: page().posted("run", **fields), tabs)
     tab = page().tab()
-    for fields in ({}, {"script": 1}, {"script": None}, {"script": "", "at": "1"},
-                   {"script": "", "anew": 1}):
-        expect(page().posted("run", tab=tab, **fields)[0], 400, fields)
-    for method in ("PUT", "DELETE", "OPTIONS", "HEAD", "CONNECT"):
-        expect(page().asked(home, method=method)[0], 501, method)
+    scripts = ({}, {"script": 1}, {"script": None}, {"script": "", "at": "1"},
+               {"script": "", "anew": 1})
+    expect_of_each(400, lambda fields: page().posted("run", tab=tab, **fields), scripts)
+    methods = ("PUT", "DELETE", "OPTIONS", "HEAD", "CONNECT")
+    expect_of_each(501, lambda method: page().asked(home, method=method), methods)
+    nonsense_is_refused()
+    expect(page().posted("run", tab="no tab", script="WRITE 1;")[0], 410)
+
+
+def nonsense_is_refused():
     for data in (b"\r\n\r\n", b"nonsense\r\n\r\n", b"GET\r\n\r\n", b"\x16\x03\x01\x02\r\n\r\n"):
         assert page().raw(data)[0] in (0, 400), data
-    expect(page().posted("run", tab="no tab", script="WRITE 1;")[0], 410)
 
 
 def a_browser_is_told_what_it_may_do():

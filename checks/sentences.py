@@ -49,13 +49,21 @@ class Sentences:
         known, waiting = {self.start: (0, None, None, None)}, [self.start]
         while waiting:
             symbol = waiting.pop()
-            for one in self.grammar[symbol]:
-                for place, part in enumerate(one):
-                    beside = known[symbol][0] + self.shortest(one) - self.shortest((part,))
-                    if isinstance(part, tuple) and (part not in known or beside < known[part][0]):
-                        known[part] = beside, symbol, one, place
-                        waiting.append(part)
+            waiting += self.surround(symbol, known)
         return known
+
+    def surround(self, symbol, known):
+        """The symbols in the productions of this one of which fewer tokens beside are known now."""
+        for one, place, part in self.parts(symbol):
+            beside = known[symbol][0] + self.shortest(one) - self.shortest((part,))
+            if part not in known or beside < known[part][0]:
+                known[part] = beside, symbol, one, place
+                yield part
+
+    def parts(self, symbol):
+        """The symbols in the productions of this one, each behind its production and its place."""
+        return [(one, place, part) for one in self.grammar[symbol]
+                for place, part in enumerate(one) if isinstance(part, tuple)]
 
     def needed(self):
         """So many tokens that each production has a part in some sentence that has no more."""
@@ -135,7 +143,7 @@ class RandomSentences:
         return said
 
     def through(self, symbol, production, spare):
-        """A sentence in which the symbol is spelled by this production, and so many spare tokens."""
+        """A sentence in which this production spells the symbol, with so many spare tokens."""
         said = self.spell_all(production, spare)
         while symbol != self.sentences.start:
             _, symbol, one, place = self.surroundings[symbol]

@@ -73,14 +73,19 @@ def changed(choose, said, tokens):
     return said[:place] + choose.choice([[], [choose.choice(tokens)]]) + said[place + gone:]
 
 
+def is_fit(said, text):
+    """Whether the statement is short, and has no bad token and no number out of range."""
+    bad = "bad" in said or "\ufffd" in text
+    too_large = any(int(number) > LARGEST for number in re.findall("[0-9]+", text))
+    return len(said) <= LONGEST and not bad and not too_large
+
+
 def from_examples():
     """The statements of the examples, without long ones, bad tokens and numbers out of range."""
     for path in sorted((TOP / "examples").rglob("*.td")):
-        for said, text in statements(path.read_text(encoding="utf-8", errors="replace")):
-            bad = "bad" in said or "\ufffd" in text
-            too_large = any(int(number) > LARGEST for number in re.findall("[0-9]+", text))
-            if len(said) <= LONGEST and not bad and not too_large:
-                yield said, text, path.relative_to(TOP)
+        found = statements(path.read_text(encoding="utf-8", errors="replace"))
+        name = path.relative_to(TOP)
+        yield from ((said, text, name) for said, text in found if is_fit(said, text))
 
 
 def answers(texts):

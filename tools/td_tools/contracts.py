@@ -33,7 +33,7 @@ class Clause:
 
 @dataclass
 class Call:
-    """A function, or what is defined of a type: its type, where it is a type's, and what is said of it."""
+    """A function, or what is defined of a type: its type, if it has one, and what is said of it."""
 
     owner: str | None
     name: str
@@ -51,7 +51,8 @@ class Call:
 
 @dataclass
 class Module:
-    """A file: its path below src/, its first sentence, its public types, each with its sentence, and its calls."""
+    """A file: its path below src/, its first sentence, its public types, each with its sentence,
+    and its calls."""
 
     path: str
     sentence: str
@@ -121,11 +122,7 @@ def clauses_of(lines, margin):
             found.append([line])
         elif found:
             found[-1].append(line)
-    every = []
-    for one in found:
-        kind, label, says = CLAUSE.match(one_line(one)).groups()
-        every.append(Clause(kind, label, says))
-    return every
+    return [Clause(*CLAUSE.match(one_line(one)).groups()) for one in found]
 
 
 def without_angles(text):
@@ -136,7 +133,8 @@ def without_angles(text):
 
 
 def owner_of(lines, at):
-    """The type, or the trait, of whose calls the block is that opens here, and the trait that it keeps."""
+    """The type, or the trait, whose calls are in the block that opens here, and whether the block
+    is a trait's or keeps one."""
     head = []
     for line in lines[at:]:
         head.append(line)
@@ -152,8 +150,10 @@ def owner_of(lines, at):
 
 def end_of_block(lines, at):
     """The line behind the item that opens here."""
+    if lines[at].endswith("{}"):
+        return at + 1
     stop = at
-    while stop < len(lines) and lines[stop] != "}" and not (stop == at and lines[at].endswith("{}")):
+    while stop < len(lines) and lines[stop] != "}":
         stop += 1
     return stop + 1
 
@@ -203,15 +203,22 @@ def calls_of(lines):
         at += 1
 
 
+def types_of(lines):
+    """The public types, each with the sentences above it."""
+    places = [(at, TYPE.match(line)) for at, line in enumerate(lines)]
+    return {found[1]: sentences_above(lines, at) for at, found in places if found}
+
+
 def read_module(file, path, is_public):
     lines = file.read_text(encoding="utf-8").splitlines()
-    types = {found[1]: sentences_above(lines, at) for at, line in enumerate(lines) if (found := TYPE.match(line))}
-    return Module(path, head_comment(lines), is_public, types, [call for call in calls_of(lines) if call])
+    calls = [call for call in calls_of(lines) if call]
+    return Module(path, head_comment(lines), is_public, types_of(lines), calls)
 
 
 def modules_below(folder, file, path, is_public):
     """The modules that the file names, in its order, each with those below it."""
-    for public, name in MODULE.findall(re.sub(r"#\[cfg\(test\)\]\nmod \w+;", "", file.read_text(encoding="utf-8"))):
+    text = re.sub(r"#\[cfg\(test\)\]\nmod \w+;", "", file.read_text(encoding="utf-8"))
+    for public, name in MODULE.findall(text):
         inner = folder / f"{name}.rt"
         is_seen = is_public and bool(public)
         yield read_module(inner, path + name, is_seen)
@@ -221,16 +228,16 @@ def modules_below(folder, file, path, is_public):
 def leave_own(modules):
     """Takes out what is the crate's own affair, and types that have no call."""
     types = {name for module in modules if module.is_public for name in module.types}
+    owners = types & {call.owner for module in modules for call in module.calls}
     for module in modules:
         module.calls = [call for call in module.calls
                         if call.owner in types or module.is_public and call.owner is None]
-    owners = {call.owner for module in modules for call in module.calls}
-    for module in modules:
-        module.types = {name: says for name, says in module.types.items() if name in types & owners}
+        module.types = {name: says for name, says in module.types.items() if name in owners}
 
 
 def read_crate(name):
-    """The crate. Its modules are told where others can name them; the program's all are, as none is above it."""
+    """The crate. Its modules are told where others can name them; the program's all are, as none is
+    above it."""
     folder = CRATES / name / "src"
     is_program = not (folder / "lib.rt").is_file()
     root = folder / ("main.rt" if is_program else "lib.rt")
