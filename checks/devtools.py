@@ -138,6 +138,23 @@ class Page:
             time.sleep(0.02)
         raise Broken(f"it does not come to that: {expression}")
 
+    def loads(self):
+        """How often the tab was told to have loaded."""
+        return sum(
+            event["method"] == "Page.loadEventFired" and event.get("sessionId") == self.session
+            for event in self.browser.events
+        )
+
+    def reload(self):
+        """Loads the page anew, and waits until it is there."""
+        before = self.loads()
+        self.ask("Page.reload")
+        while self.loads() == before:
+            told = self.browser.message(PATIENCE)
+            if told is None:
+                raise Broken("the page does not load")
+            self.browser.events.append(told)
+
     def size(self, width, height, scale=1):
         self.ask("Emulation.setDeviceMetricsOverride", width=width, height=height,
                  deviceScaleFactor=scale, mobile=False)

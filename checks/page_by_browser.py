@@ -354,7 +354,8 @@ def a_script_is_saved_opened_and_linked():
         field = page.ask("DOM.querySelector", nodeId=root, selector="#file")["nodeId"]
         page.ask("DOM.setFileInputFiles", nodeId=field, files=[str(other)])
         page.wait("editor.text === 'WRITE 3;\\n'")
-        page.value("savedText = editor.text, location.reload()")
+        page.value("savedText = editor.text")
+        page.reload()
         page.wait(f"document.readyState === 'complete' && {READY}")
         expect(page.value("editor.text"), "WRITE 3;\n", "behind a reload there is")
 
