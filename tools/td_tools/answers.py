@@ -16,6 +16,14 @@ BLANKS = re.compile(rb"(?:[ \t\r\n]|\xef\xbb\xbf)*")
 REFUSAL = re.compile(rb"REFUSED \d+ [A-Z_]+(?: [^\n]+)?\n")
 
 
+def decoded(data):
+    return data.decode("utf-8", "surrogateescape")
+
+
+def encoded(text):
+    return text.encode("utf-8", "surrogateescape")
+
+
 class Session:
     """A run of td that stays open.
 

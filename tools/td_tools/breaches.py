@@ -5,8 +5,8 @@ has one key, of all its attributes. There td is asked for what each key and cons
 """
 from dataclasses import dataclass, field
 
-from .answers import Session
-from .definitions import definitions
+from .answers import Session, decoded, encoded
+from .definitions import Kind, definitions
 from .explained import explained
 from .grammar import Stop, parsed
 from .literals import Relation, relation_of
@@ -74,17 +74,16 @@ def names_in(node, text):
 def attributes(tree, text):
     """The names of the attributes of a base relvar's heading."""
     (definition,) = nodes(tree, "base_relvar")
-    heading = definition.parts()[4]
-    tokens = [one.parts()[0] for one in nodes(heading, "attribute")]
+    heading = definition.parts[4]
+    tokens = [one.parts[0] for one in nodes(heading, "attribute")]
     return [text[one.begins : one.ends] for one in tokens]
 
 
 def loosened(one):
     """The definition without its keys: of a base relvar with one of all its attributes."""
-    bare = one.text.removesuffix(";").removesuffix(one.keys_text)
-    if one.is_base:
-        bare += f" KEY {{{', '.join(name for name, _ in one.heading)}}}"
-    return f"{bare};"
+    if one.kind is not Kind.BASE:
+        return f"{one.bare};"
+    return f"{one.bare} KEY {{{', '.join(name for name, _ in one.heading)}}};"
 
 
 class Copy:
@@ -92,11 +91,10 @@ class Copy:
 
     def __init__(self, session, every):
         self.session = session
-        self.answer("\n".join(loosened(one) for one in every if one.kind != "CONSTRAINT"))
+        self.answer("\n".join(loosened(one) for one in every if one.kind is not Kind.CONSTRAINT))
 
     def answer(self, script):
-        answer = self.session.answer(script.encode("utf-8", "surrogateescape"))
-        return answer.decode("utf-8", "surrogateescape")
+        return decoded(self.session.answer(encoded(script)))
 
     def value(self, expression):
         """What td writes of an expression, without the line's end."""
@@ -110,7 +108,7 @@ def breaches(session, text):
         return ""
     every = definitions(session)
     keys = [Key(one.name, ", ".join(key)) for one in every for key in one.keys] + tried.keys
-    constraints = [(one.name, one.expression) for one in every if one.kind == "CONSTRAINT"]
+    constraints = [(one.name, one.expression) for one in every if one.kind is Kind.CONSTRAINT]
     with Session() as run:
         copy = Copy(run, every)
         if tried.statement and copy.answer(tried.statement) != "OK\n":
@@ -145,7 +143,7 @@ def is_held(session, relvar, relation, values):
     """Whether the relvar has the tuple before the statement."""
     parts = (f"{name} {one.literal}" for (name, _), one in zip(relation.heading, values))
     question = f"WRITE TUPLE {{{', '.join(parts)}}} IN {relvar};"
-    return session.answer(question.encode("utf-8", "surrogateescape")) == b"TRUE\n"
+    return session.answer(encoded(question)) == b"TRUE\n"
 
 
 def limited(relation):

@@ -1,99 +1,9 @@
-"""What a database defines, by td's dump, and which definition mentions which, by asking td."""
-import io
-import re
-from dataclasses import dataclass
-from enum import Enum
+"""What a database defines, and which definition mentions which, by asking td."""
+from .answers import Session, decoded, encoded
+from .definitions import RELVARS, Kind, base_relvar, definitions, heading_of
+from .schemas import type_of
 
-from .answers import Session
-from .literals import NoLiteral, Reader, whole_lines
-
-KEYS_AT_END = re.compile(r"(?:\)|\})((?: KEY \{[^{}()']*\})*);\Z")
-ONE_KEY = re.compile(r"KEY (\{[^{}]*\})")
-TYPE_NAMED = re.compile(r"([^\s{}(),]+)(?=[,}])")
-WORD = re.compile(r"'(?:[^']|'')*'|[^\s{}(),;:=<>+\-*/|']+")
 OK = b"OK\n"
-
-
-class Kind(Enum):
-    """The kinds of definitions, in the order in which a dump has them."""
-
-    TYPE = "type"
-    BASE = "base relvar"
-    VIRTUAL = "virtual relvar"
-    CONSTRAINT = "constraint"
-
-
-RELVARS = (Kind.BASE, Kind.VIRTUAL)
-
-
-@dataclass(frozen=True)
-class Definition:
-    """One statement of a dump. A base relvar has its heading, and a virtual relvar or a constraint
-    its expression."""
-
-    kind: Kind
-    name: str
-    statement: str
-    heading: tuple = ()
-    expression: str = ""
-    keys: tuple = ()
-
-    @property
-    def words(self):
-        """The words of the statement, of which a base relvar's are its heading's: all that it
-        mentions is among them."""
-        if self.kind is Kind.BASE:
-            return {one for _, text in self.heading for one in TYPE_NAMED.findall(text + "}")}
-        return set(WORD.findall(self.statement)) - {self.name}
-
-
-def definition(statement):
-    """The definition that a statement of a dump is."""
-    reader = Reader(statement)
-    keys = KEYS_AT_END.search(statement)
-    declared = tuple(ONE_KEY.findall(keys.group(1))) if keys else ()
-    if reader.takes("TYPE "):
-        return Definition(Kind.TYPE, reader.name(), statement)
-    if reader.takes("CONSTRAINT "):
-        name = reader.name()
-        expression = statement[reader.at : -1].strip()
-        return Definition(Kind.CONSTRAINT, name, statement, expression=expression)
-    reader.take("VAR ")
-    name = reader.name()
-    if reader.takes(" VIRTUAL ("):
-        expression = statement[reader.at : keys.start()]
-        return Definition(Kind.VIRTUAL, name, statement, expression=expression, keys=declared)
-    reader.take(" BASE RELATION ")
-    heading = tuple(reader.heading())
-    return Definition(Kind.BASE, name, statement, heading, keys=declared)
-
-
-def decoded(data):
-    return data.decode("utf-8", "surrogateescape")
-
-
-def encoded(text):
-    return text.encode("utf-8", "surrogateescape")
-
-
-def type_of(session, expression):
-    """The type of an expression, as td writes it, or None where td refuses it. It is evaluated for
-    each tuple of a relation that has none, so that it can be asked of any expression."""
-    answer = decoded(session.answer(encoded(f"WRITE EXTEND TABLE_DUM ADD ({expression} AS A);")))
-    reader = Reader(answer)
-    try:
-        reader.take("RELATION {A ")
-        return reader.type()
-    except NoLiteral:
-        return None
-
-
-def heading_of(session, expression):
-    """The heading of a relation, or None where the expression is none."""
-    text = type_of(session, expression) or ""
-    if not text.startswith("RELATION "):
-        return None
-    return tuple(Reader(text.removeprefix("RELATION ")).heading())
 
 
 class Catalog:
@@ -101,8 +11,7 @@ class Catalog:
 
     def __init__(self, session):
         self.session = session
-        dump = io.StringIO(decoded(session.answer(b"DUMP;")), newline="\n")
-        self.definitions = [definition(one.removesuffix("\n")) for one in whole_lines(dump)]
+        self.definitions = definitions(session)
 
     def named(self, name):
         """The definitions of a name: a type, a relvar and a constraint may have the same."""
@@ -112,7 +21,7 @@ class Catalog:
         """The heading of a relvar."""
         if relvar.kind is Kind.BASE:
             return relvar.heading
-        return heading_of(self.session, relvar.name) or ()
+        return heading_of(type_of(self.session, relvar.name) or "")
 
     def count(self, relvar):
         """How many tuples a relvar has, as td answers it: it may be refused."""
@@ -147,9 +56,8 @@ class StandIns:
 
     def stand_in(self, relvar):
         heading = self.catalog.heading(relvar)
-        attributes = ", ".join(f"{name} {text}" for name, text in heading)
         names = ", ".join(name for name, _ in heading)
-        return f"VAR {relvar.name} BASE RELATION {{{attributes}}} KEY {{{names}}};"
+        return f"{base_relvar(relvar.name, heading)} KEY {{{names}}};"
 
     def mentions(self, one, other):
         """Whether a definition mentions another, whose name is among its words: td then refuses to
@@ -160,10 +68,11 @@ class StandIns:
         if one.expression:
             tried.append(f"VAR {self.fresh} VIRTUAL (EXTEND TABLE_DUM ADD ({one.expression} AS A))")
         kept = (other,) if one.expression else (one, other)
-        tried += [drop(rest) for rest in reversed(self.catalog.definitions) if rest not in kept]
+        rest = [each for each in reversed(self.catalog.definitions) if each not in kept]
+        tried += [f"DROP {each.word} {each.name}" for each in rest]
         answers = self.session.answer(encoded("".join(f"{statement};" for statement in tried)))
         is_tried = answers.startswith(OK * (2 if one.expression else 1))
-        answer = self.session.answer(encoded(drop(other) + ";"))
+        answer = self.session.answer(encoded(f"DROP {other.word} {other.name};"))
         self.session.answer(b"ROLLBACK;")
         return not is_tried or answer != OK
 
@@ -172,9 +81,3 @@ class StandIns:
 
     def __exit__(self, *_):
         self.session.leave()
-
-
-def drop(one):
-    """What drops a definition."""
-    words = {Kind.TYPE: "TYPE", Kind.CONSTRAINT: "CONSTRAINT"}
-    return f"DROP {words.get(one.kind, 'VAR')} {one.name}"

@@ -3,8 +3,9 @@ import difflib
 from pathlib import Path
 
 from .answers import Script, is_refusal
-from .catalog import RELVARS, Catalog, Kind
+from .catalog import Catalog
 from .database import ACCEPTED
+from .definitions import RELVARS, Kind
 from .literals import Relation, Value
 from .scripts import database_named, script_of
 from .shown import as_tables, refusal
@@ -141,7 +142,7 @@ class Commands:
         if not every:
             return "nothing is defined\n"
         counts = [catalog.count(one) if one.kind is Kind.BASE else "" for one in every]
-        keys = [" ".join(one.keys) for one in every]
+        keys = [one.keys_text.replace(" KEY ", " ").lstrip() for one in every]
         names, kinds = [one.name for one in every], [one.kind.value for one in every]
         return columns(("NAME", names), ("KIND", kinds), ("TUPLES", counts), ("KEYS", keys))
 
@@ -154,7 +155,7 @@ def described(catalog, one):
         heading = catalog.heading(one)
         names, types = [name for name, _ in heading], [text for _, text in heading]
         parts.append(columns(("ATTRIBUTE", names), ("TYPE", types)).rstrip("\n"))
-        parts += [f"KEY {key}" for key in one.keys]
+        parts += [f"KEY {{{', '.join(key)}}}" for key in one.keys]
     if one.kind is not Kind.BASE:
         parts.append(visible_lines(one.statement))
     for head, others in (

@@ -4,8 +4,9 @@ import os
 import re
 from pathlib import Path
 
-from .catalog import RELVARS, Catalog
+from .catalog import Catalog
 from .command import Failure
+from .definitions import RELVARS
 
 try:
     import readline

@@ -2,12 +2,11 @@
 from dataclasses import dataclass, field
 
 from .answers import Session
-from .catalog import Kind
 from .csv_columns import CellType, Column, Selector, kind_of, strays
 from .csv_files import BadRow, wrong
-from .dumps import definitions, dump_of, keys_of, representation_of, value_of
-from .literals import Reader, relation_of
-from .scripts import script_of
+from .definitions import Kind, definitions_of
+from .literals import relation_of
+from .scripts import dump_of, script_of
 
 BUILT_IN = {kind.value for kind in CellType}
 # So many answers of td fit in a pipe while it is still being asked.
@@ -43,7 +42,7 @@ class Plan:
     def take_database(self, file, is_insert):
         """Takes types, and of an INSERT headings and keys, from the database of a script."""
         self.dump, _ = dump_of(script_of([file]).text)
-        known = definitions(self.dump)
+        known = definitions_of(self.dump)
         types = {one.name: one for one in known if one.kind == Kind.TYPE}
         relvars = {one.name: one for one in known if one.kind == Kind.BASE}
         targets = [self.relvar, *self.optional.values()]
@@ -58,10 +57,10 @@ class Plan:
     def take_relvars(self, targets, types):
         """Takes the heading, the keys and the tuples of the first, and the types of all."""
         first = targets[0]
-        self.keys = self.keys or keys_of(first)
+        self.keys = self.keys or first.keys
         self.heading = [*dict(first.heading), *self.optional]
         names = list(dict(first.heading))
-        tuples = relation_of(value_of(first) + "\n").tuples
+        tuples = relation_of(first.value + "\n").tuples
         self.known = [dict(zip(names, (value.literal for value in one))) for one in tuples]
         for target in targets:
             for attribute, kind in target.heading:
@@ -86,11 +85,8 @@ class Plan:
 
 def only_component(definition):
     """The type of a type's only component, where that is one of a cell's."""
-    reader = Reader(representation_of(definition))
-    reader.take("{")
-    _, kind = reader.attribute()
-    is_only = reader.takes("}") or reader.takes(" CONSTRAINT ")
-    return CellType[kind] if is_only and kind in BUILT_IN else None
+    (_, kind), *others = definition.components[0]
+    return CellType[kind] if not others and kind in BUILT_IN else None
 
 
 @dataclass(frozen=True)

@@ -1,8 +1,8 @@
 """What is known of a declaration, a drop or a target that td refuses: who has the name, who
 mentions what is dropped, and which key or attribute it is.
 """
-from .answers import Session
-from .definitions import definitions
+from .answers import Session, encoded
+from .definitions import Kind, definitions
 from .hints import nearest
 from .parts import FRESH, nodes
 from .places import as_written, in_a_list, shortened
@@ -18,9 +18,9 @@ def taken(asking, statement):
     """The definition that has the name already."""
     name = name_of(asking, statement)
     for one in definitions(asking.session):
-        if (one.kind, one.name) == (statement.kind, name):
+        if (one.word, one.name) == (statement.kind, name):
             has = shortened(as_written(one.declared), LONGEST)
-            says = f" at {name}, which is there: {has}; try another name, or DROP {one.kind} {name}"
+            says = f" at {name}, which is there: {has}; try another name, or DROP {one.word} {name}"
             return statement.name.begins, says
     return None
 
@@ -29,8 +29,8 @@ def not_there(asking, statement):
     """What is dropped and is not there, with the nearest name that is."""
     name = name_of(asking, statement)
     every = definitions(asking.session)
-    near = nearest(name, [one.name for one in every if one.kind == statement.kind])
-    others = [f"DROP {one.kind} {name}" for one in every if one.name == name]
+    near = nearest(name, [one.name for one in every if one.word == statement.kind])
+    others = [f"DROP {one.word} {name}" for one in every if one.name == name]
     hint = others[0] if others else near
     return statement.name.begins, f" at {name}" + (f"; try {hint}" if hint else "")
 
@@ -38,7 +38,7 @@ def not_there(asking, statement):
 def mentioned(asking, statement):
     """The definitions that mention what is dropped."""
     name = name_of(asking, statement)
-    by = [f"{one.kind} {one.name}" for one in mentions(asking.session, statement.kind, name)]
+    by = [f"{one.word} {one.name}" for one in mentions(asking.session, statement.kind, name)]
     verb = "mentions" if len(by) == 1 else "mention"
     said = in_a_list(by)
     says = f" at {name}, which {said} {verb}" if by else f" at {name}"
@@ -52,8 +52,8 @@ def mentions(session, kind, name):
         refused = [
             one
             for one in every
-            if (one.kind, one.name) != (kind, name)
-            and copy.answer(one.unchecked.encode("utf-8", "surrogateescape")) != b"OK\n"
+            if (one.word, one.name) != (kind, name)
+            and copy.answer(encoded(one.unchecked)) != b"OK\n"
         ]
     return [one for one in refused if name in one.words]
 
@@ -64,7 +64,7 @@ def not_assignable(asking, statement):
         name = asking.text[target.begins : target.ends]
         if asking.answers([f"DELETE {name} WHERE FALSE;"])[0].startswith(asking.refusal):
             every = definitions(asking.session)
-            (own,) = [one for one in every if one.name == name and one.is_virtual]
+            (own,) = [one for one in every if (one.kind, one.name) == (Kind.VIRTUAL, name)]
             said = shortened(as_written(own.declared), LONGEST)
             return target.begins, f" at {name}, which is {said}"
     return None
@@ -97,7 +97,7 @@ def wrong_key(asking, statement):
         says = f" at {name_of(asking, statement)}, which has no KEY"
         return statement.name.begins, f"{says}; try KEY {{{', '.join(names)}}}"
     declaring = Declaring(asking, statement)
-    keys = [one.parts()[1] for one in statement.keys]
+    keys = [one.parts[1] for one in statement.keys]
     said = [asking.text[one.begins : one.ends] for one in keys]
     for key, text in zip(keys, said):
         if declaring.refused(text):
@@ -113,7 +113,7 @@ def wrong_key(asking, statement):
 def unknown_attribute(asking, statement, key, text):
     """The name in a key that is no attribute. A key may have one twice, too."""
     known = [one for one, _ in asking.attributes_of_heading(statement)]
-    for name in nodes(key, "name_list")[0].parts() if nodes(key, "name_list") else []:
+    for name in nodes(key, "name_list")[0].parts if nodes(key, "name_list") else []:
         word = asking.text[name.begins : name.ends]
         if name.kind == "name" and word not in known:
             near = nearest(word, known)

@@ -1,8 +1,7 @@
 """Lays out a dump for people and for git: a tuple on each line, by key, with its key in front."""
 import re
 
-from .catalog import Kind
-from .dumps import in_order, keys_of, representation_of, value_of
+from .definitions import Kind, in_order
 from .expression_layout import STEP, WIDTH, joined, laid, tokens_of
 from .literals import relation_of
 
@@ -16,11 +15,11 @@ def tuples_of(relvar):
     """The values of each tuple of a base relvar, in the order of its heading."""
     kinds = [kind for _, kind in relvar.heading]
     if not kinds or not set(kinds) <= set(PLAIN):
-        relation = relation_of(value_of(relvar) + "\n")
+        relation = relation_of(relvar.value + "\n")
         return [tuple(value.literal for value in one) for one in relation.tuples]
     parts = ", ".join(f"{re.escape(name)} {PLAIN[kind]}" for name, kind in relvar.heading)
     heading = ", ".join(f"{name} {kind}" for name, kind in relvar.heading)
-    body = value_of(relvar)[len(f"RELATION {{{heading}}} {{") :]
+    body = relvar.value[len(f"RELATION {{{heading}}} {{") :]
     found = re.compile(f"TUPLE {{{parts}}}").findall(body)
     return [(one,) for one in found] if len(kinds) == 1 else found
 
@@ -54,17 +53,17 @@ def ordered(relvar, places):
 
 def tuple_lines(relvar):
     """A line for each tuple, without what stands between them."""
-    attributes = in_order(relvar)
+    attributes = in_order(relvar.heading, relvar.keys)
     names = [name for name, _ in relvar.heading]
     places = [names.index(name) for name, _ in attributes]
     form = "TUPLE {" + ", ".join(f"{name} %s" for name, _ in attributes) + "}"
-    for values in ordered(relvar, places[: len(keys_of(relvar)[0])]):
+    for values in ordered(relvar, places[: len(relvar.keys[0])]):
         yield form % tuple(values[place] for place in places)
 
 
 def heading(relvar):
     """The heading: an attribute on each line, where they don't fit on one."""
-    attributes = [f"{name} {kind}" for name, kind in in_order(relvar)]
+    attributes = [f"{name} {kind}" for name, kind in in_order(relvar.heading, relvar.keys)]
     line = ", ".join(attributes)
     if len(line) <= WIDTH - 2 * STEP:
         return f"{{{line}}}"
@@ -79,15 +78,11 @@ def value(relvar):
     return f"RELATION {{\n{lines}\n}}"
 
 
-def keys(relvar):
-    return "".join(f" KEY {key}" for key in relvar.keys)
-
-
 def base_relvar(relvar, has_value=True):
     front = f"VAR {relvar.name} BASE RELATION {heading(relvar)}"
-    is_given = has_value and not value_of(relvar).endswith(" {}")
+    is_given = has_value and not relvar.value.endswith(" {}")
     initial = f" INIT ({value(relvar)})" if is_given else ""
-    return f"{front}{initial}{keys(relvar)};\n"
+    return f"{front}{initial}{relvar.keys_text};\n"
 
 
 def short_or_laid(front, expression, behind, opener="\n", closer=""):
@@ -106,11 +101,11 @@ def statement(definition, has_value=True):
     if kind == Kind.BASE:
         return base_relvar(definition, has_value)
     if kind == Kind.VIRTUAL:
-        behind = f"){keys(definition)};"
+        behind = f"){definition.keys_text};"
         return short_or_laid(f"VAR {name} VIRTUAL (", definition.expression, behind, closer="\n")
     if kind == Kind.CONSTRAINT:
         return short_or_laid(f"CONSTRAINT {name} ", definition.expression, ";")
-    return short_or_laid(f"TYPE {name} POSSREP ", representation_of(definition), ";")
+    return short_or_laid(f"TYPE {name} POSSREP ", definition.representation, ";")
 
 
 def script(definitions, has_values=True):

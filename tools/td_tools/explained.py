@@ -1,6 +1,5 @@
 """Why a condition is FALSE: the tuples that are where they must not be, or the values compared."""
-from .grammar import parsed
-from .parts import FRESH, Parts, written
+from .parts import FRESH, of_expression
 from .places import as_written, one_line, shortened
 
 INCLUSIONS = {"<=": [(0, 1)], "<": [(0, 1)], ">=": [(1, 0)], ">": [(1, 0)], "=": [(0, 1), (1, 0)]}
@@ -9,8 +8,8 @@ COMPARISONS = {*INCLUSIONS, "<>"}
 
 def explained(copy, expression):
     """Pairs of what is said and of a relation's literal, or none, of a condition that is FALSE."""
-    text = f"WRITE {expression};"
-    return list(Explanation(copy, text).of(Parts(text).expression(written(parsed(text)))))
+    text, part = of_expression(expression)
+    return list(Explanation(copy, text).of(part))
 
 
 class Explanation:
@@ -30,10 +29,9 @@ class Explanation:
 
     def of(self, part):
         """What makes the part FALSE."""
+        part = part.bare
         operands = [one for one, _ in part.operands]
-        if part.kind == "" and len(operands) == 1:
-            yield from self.of(operands[0])
-        elif part.kind in ("AND", "OR"):
+        if part.kind in ("AND", "OR"):
             for one in operands:
                 if part.kind == "OR" or not self.is_true(one):
                     yield from self.of(one)

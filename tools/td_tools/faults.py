@@ -7,6 +7,7 @@ from dataclasses import dataclass
 
 from . import declared
 from . import hints
+from .answers import decoded, encoded
 from .definitions import heading_of
 from .grammar import Stop, parsed
 from .literals import relation_of
@@ -54,8 +55,7 @@ class Asking:
         every = []
         for at in range(0, len(questions), AT_ONCE):
             asked = questions[at : at + AT_ONCE]
-            script = "\n".join(asked).encode("utf-8", "surrogateescape")
-            lines = self.session.answer(script).decode("utf-8", "surrogateescape").split("\n")
+            lines = decoded(self.session.answer(encoded("\n".join(asked)))).split("\n")
             every += lines[: len(asked) * each : each]
         return every
 
@@ -163,8 +163,7 @@ class Asking:
 
     def value(self, text):
         """What td writes of an expression, without the line's end."""
-        answer = self.session.answer(f"WRITE {text};".encode("utf-8", "surrogateescape"))
-        return answer.decode("utf-8", "surrogateescape").removesuffix("\n")
+        return decoded(self.session.answer(encoded(f"WRITE {text};"))).removesuffix("\n")
 
     def type_of(self, part, frames):
         return self.type(self.text[part.begins : part.ends], frames)
@@ -217,7 +216,7 @@ def told_part(asking, found):
     if cause == NAME_UNKNOWN:
         return unknown(asking, found)
     operands = [(one, around(frames, frame)) for one, frame in operands_of(part)]
-    if part.added and cause == HEADING:
+    if part.kind == "EXTEND" and cause == HEADING:
         return there_already(asking, part, text, operands[0])
     kinds = [asking.type_of(*one) for one in operands]
     texts = [asking.text[one.begins : one.ends] for one, _ in operands]

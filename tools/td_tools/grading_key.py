@@ -8,10 +8,9 @@ import os
 import re
 from dataclasses import dataclass
 
-from . import dumps
-from .answers import Cutter, Script, Session, is_refusal
-from .catalog import Kind, decoded, encoded
+from .answers import Cutter, Script, Session, decoded, encoded, is_refusal
 from .command import WRONG_WORDS, Failure
+from .definitions import Kind, base_relvar, definitions, definitions_of
 from .literals import Reader
 from .scripts import script_of, text_of
 from .shown import refusal
@@ -76,13 +75,13 @@ class Given:
         try:
             self.run(script_of([name]))
             self.dump = self.session.answer(b"DUMP;")
-            self.definitions = dumps.definitions(decoded(self.dump))
+            self.definitions = definitions_of(decoded(self.dump))
             self.run(key)
         except BaseException:
             self.leave()
             raise
         given = {one.name for one in self.definitions if one.kind is Kind.VIRTUAL}
-        every = dumps.definitions(decoded(self.session.answer(b"DUMP;")))
+        every = definitions(self.session)
         virtual = [one.name for one in every if one.kind is Kind.VIRTUAL]
         self.answers = [one for one in virtual if one not in given]
         self.literals = {}
@@ -108,7 +107,7 @@ class Given:
         """What the key's answer has that a relation has not, and the other way round; None where
         their headings differ."""
         heading, _ = some_tuples(literal)
-        front = f"{declared(OTHER, heading)} INIT ({literal}) KEY {names(heading)};"
+        front = f"{base_relvar(OTHER, heading)} INIT ({literal}) KEY {names(heading)};"
         self.session.answer(encoded(front))
         told = [self.difference(f"{name} MINUS {OTHER}"), self.difference(f"{OTHER} MINUS {name}")]
         self.session.answer(encoded(f"DROP VAR {OTHER};"))
@@ -140,18 +139,12 @@ def names(heading):
     return f"{{{', '.join(name for name, _ in heading)}}}"
 
 
-def declared(name, heading):
-    """The front of the definition of a base relvar."""
-    attributes = ", ".join(map(" ".join, heading))
-    return f"VAR {name} BASE RELATION {{{attributes}}}"
-
-
 def guarding(one, name):
     """What is accepted, and keeps a definition as it is: a constraint that mentions it, for a base
     relvar beside a copy of its value. Of a constraint nothing can be said."""
     if one.kind is Kind.BASE:
-        key = dumps.keys_of(one)[0]
-        copy = f"{declared(name, one.heading)} INIT ({one.name}) KEY {{{', '.join(key)}}};"
+        key = ", ".join(one.keys[0])
+        copy = f"{base_relvar(name, one.heading)} INIT ({one.name}) KEY {{{key}}};"
         return [copy, f"CONSTRAINT {name} {one.name} = {name};"]
     if one.kind is Kind.VIRTUAL:
         return [f"CONSTRAINT {name} IF TRUE THEN TRUE ELSE IS_EMPTY({one.name}) END IF;"]

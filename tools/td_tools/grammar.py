@@ -4,6 +4,7 @@ The productions are made an automaton, whose states say what may follow what was
 productions are possible both are followed until a token tells. So each token is read once.
 """
 import functools
+import itertools
 import re
 from collections import namedtuple
 from dataclasses import dataclass
@@ -15,7 +16,11 @@ from .programs import TOP
 
 START, END = ("statement",), "the end"
 SHIFT, REDUCE = range(2)
-RUN = ("run", 0)
+# Lines that only go on to another one where no operator, and no sign, stands there.
+LEVELS = {
+    *("expression", "disjunction", "conjunction", "negation", "comparison", "relational", "sum"),
+    *("product", "factor", "prefixed", "primary", "constructor"),
+}
 
 # A state of the automaton with the tree of the symbol that led to it, and what is below.
 Stack = namedtuple("Stack", "state tree below")
@@ -34,42 +39,14 @@ WORDS = re.compile(r"'(?:[^']|'')*+'|([A-Za-z_][\w#]*+)", re.ASCII)
 
 
 class Node:
-    """A part of a statement that a symbol of the grammar spells."""
+    """A part of a statement that a line of the grammar spells: in order its tokens, the parts that
+    other lines spell, and the runs of tuples."""
 
-    __slots__ = ("symbol", "children")
+    __slots__ = ("name", "parts", "begins", "ends")
 
-    def __init__(self, symbol, children):
-        self.symbol, self.children = symbol, children
-
-    def parts(self):
-        """The tokens, the named parts and the runs of tuples in it, in order."""
-        waiting, found = [*reversed(self.children)], []
-        while waiting:
-            one = waiting.pop()
-            if isinstance(one, Node) and len(one.symbol) > 1:
-                waiting.extend(reversed(one.children))
-            elif not isinstance(one, Node) or one.children:
-                found.append(one)
-        return found
-
-    @property
-    def name(self):
-        return self.symbol[0]
-
-    @property
-    def begins(self):
-        return self.leaf(reversed).begins
-
-    @property
-    def ends(self):
-        return self.leaf(list).ends
-
-    def leaf(self, order):
-        """The first token or run in it, or by the other order the last one."""
-        waiting = [self]
-        while isinstance(one := waiting.pop(), Node):
-            waiting.extend(order(one.children))
-        return one
+    def __init__(self, name, parts):
+        self.name, self.parts = name, parts
+        self.begins, self.ends = parts[0].begins, parts[-1].ends
 
 
 # Plain tuples, each with a comma behind it.
@@ -100,27 +77,21 @@ class Automaton:
     """The states of the productions, each a set of places in them, and what leads from one on."""
 
     def __init__(self, productions):
+        nullable = {symbol for symbol, every in productions.items() if () in every}
         self.productions = [
-            Production(symbol, tuple(parts))
+            Production(symbol, left_recursive(symbol, parts))
             for symbol, every in productions.items()
-            for parts in left_recursive(symbol, every)
+            for one in every
+            for parts in variants(one, nullable)
         ]
         self.of_symbol = {}
         for number, one in enumerate(self.productions):
             self.of_symbol.setdefault(one.symbol, []).append(number)
-        self.nullable = self.spelling_nothing()
         self.first = self.least(self.firsts_of)
         self.follow = self.follows()
         self.states, self.actions, self.gotos = {}, [], []
         self.in_lists = set()
         self.build()
-
-    def spelling_nothing(self):
-        known, size = set(), -1
-        while size != len(known):
-            size = len(known)
-            known |= {one.symbol for one in self.productions if set(one.parts) <= known}
-        return known
 
     def least(self, grows):
         """The least sets, one of each symbol, that this adds nothing to."""
@@ -133,22 +104,17 @@ class Automaton:
         return sets
 
     def firsts_of(self, sets, production):
-        for part in production.parts:
-            sets[production.symbol] |= sets[part] if isinstance(part, tuple) else {part}
-            if part not in self.nullable:
-                break
+        part = production.parts[0]
+        sets[production.symbol] |= sets[part] if isinstance(part, tuple) else {part}
 
     def follows(self):
         """Of each symbol the tokens that may stand behind it."""
         def grow(sets, production):
             behind = sets[production.symbol]
             for part in reversed(production.parts):
-                if not isinstance(part, tuple):
-                    behind = {part}
-                    continue
-                sets[part] |= behind
-                own = self.first[part]
-                behind = own | behind if part in self.nullable else own
+                if isinstance(part, tuple):
+                    sets[part] |= behind
+                behind = self.first[part] if isinstance(part, tuple) else {part}
         sets = {symbol: set() for symbol in self.of_symbol}
         sets[START] = {END}
         size = -1
@@ -210,26 +176,40 @@ class Automaton:
         symbol, parts = self.productions[number]
         return symbol[0] == "list" and parts[dot - 1 : dot + 1] == (",", ("expression",))
 
-    def reduced(self, stack, number):
-        """The stack with the tree of a production in place of those of its parts."""
+    @functools.cache
+    def behind(self, state, symbol, kind):
+        """The state to which a symbol leads from another one. Where the token behind it tells that
+        the symbol is all of a looser level, whose tree is the same, it is that to which this leads.
+        """
+        target = self.gotos[state][symbol]
+        actions = self.actions[target].get(kind, ())
+        if len(actions) == 1 and actions[0][0] == REDUCE:
+            looser, parts = self.productions[actions[0][1]]
+            if looser[0] in LEVELS and len(looser) == 1 and parts == (symbol,):
+                return self.behind(state, looser, kind)
+        return target
+
+    def reduced(self, stack, number, kind):
+        """The stack with the tree of a production in place of those of its parts, before a token of
+        this kind."""
         symbol, parts = self.productions[number]
-        children = []
+        trees = []
         for _ in parts:
-            children.append(stack.tree)
+            trees.append(stack.tree)
             stack = stack.below
-        children.reverse()
-        return Stack(self.gotos[stack.state][symbol], Node(symbol, children), stack)
+        tree = trees[::-1] if len(symbol) > 1 else tree_of(symbol[0], trees)
+        return Stack(self.behind(stack.state, symbol, kind), tree, stack)
 
     def advanced(self, stacks, token):
         """The stacks behind the token. There are none where it can't stand there."""
-        behind, waiting = [], list(stacks)
+        behind, waiting, kind = [], list(stacks), token.kind
         while waiting:
             stack = waiting.pop()
-            for act, number in self.actions[stack.state].get(token.kind, ()):
+            for act, number in self.actions[stack.state].get(kind, ()):
                 if act == SHIFT:
                     behind.append(Stack(number, token, stack))
                 else:
-                    waiting.append(self.reduced(stack, number))
+                    waiting.append(self.reduced(stack, number, kind))
         return behind
 
     def expected(self, stacks):
@@ -238,10 +218,30 @@ class Automaton:
         return frozenset(kind for kind in kinds if self.advanced(stacks, Token(kind, 0, 0)))
 
 
-def left_recursive(symbol, productions):
-    """The productions, where a part that is repeated stands behind those before it."""
-    for parts in productions:
-        yield parts[::-1] if len(symbol) > 1 and parts[-1:] == (symbol,) else parts
+def tree_of(name, trees):
+    """The tree of a line of the grammar, of the trees of its parts, the last one in front. Those of
+    parts that no line is about are lists. What only stands for another level is that."""
+    if len(trees) == 1 and name in LEVELS and type(trees[0]) is Node:
+        return trees[0]
+    parts = []
+    while trees:
+        one = trees.pop()
+        if type(one) is list:
+            trees.extend(reversed(one))
+        else:
+            parts.append(one)
+    return Node(name, parts)
+
+
+def variants(parts, nullable):
+    """The parts, where each that may spell nothing is there or left out, if one is left."""
+    choices = [((one,), ()) if one in nullable else ((one,),) for one in parts]
+    return filter(None, (tuple(itertools.chain(*one)) for one in itertools.product(*choices)))
+
+
+def left_recursive(symbol, parts):
+    """The parts of a production, where one that is repeated stands behind those before it."""
+    return parts[::-1] if len(symbol) > 1 and parts[-1:] == (symbol,) else parts
 
 
 @functools.cache
@@ -272,7 +272,7 @@ def after_run(machine, stacks, comma, text):
     ends = end_of_run(text, comma.ends)
     if ends > comma.ends:
         (stack,) = stacks
-        stacks = [stack._replace(tree=Node(RUN, [comma, Run(comma.ends, ends)]))]
+        stacks = [stack._replace(tree=[comma, Run(comma.ends, ends)])]
     return stacks, ends
 
 
@@ -294,7 +294,7 @@ def parsed(text):
         stacks = behind
         before.append(token)
         if token.kind == ";":
-            return Node(START, [stacks[0].below.tree, token])
+            return tree_of("statement", [token, stacks[0].below.tree or []])
         if token.kind == "," and stacks[0].state in machine.in_lists:
             stacks, ends = after_run(machine, stacks, token, text)
             if ends > token.ends:

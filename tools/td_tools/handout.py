@@ -11,13 +11,13 @@ from dataclasses import dataclass, field
 from itertools import pairwise
 
 from . import prose
-from .answers import is_refusal
+from .answers import decoded, is_refusal
 from .comments import comments, note
-from .dumps import definitions
+from .definitions import definitions
 from .keys_first import key_of, with_first
 from .literals import relation_of, whole_lines
 from .scripts import ON_DATABASE
-from .shown import decoded, refusal_typed
+from .shown import refusal_typed
 
 EXERCISE = re.compile(r"\s*(?:#+ +)?\**Exercise\b")
 SOLUTION = re.compile(r"\s*(?:#+ +)?\**Solution\b")
@@ -142,7 +142,7 @@ class Handout:
         if relation is None or not self.has_keys_first:
             return relation
         if self.known is None:
-            self.known = definitions(decoded(self.session.answer(b"DUMP;")))
+            self.known = definitions(self.session)
         key = key_of(self.known, code, [name for name, _ in relation.heading])
         return with_first(relation, key) if key else relation
 

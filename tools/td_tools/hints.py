@@ -1,7 +1,7 @@
 """What is known beside the part of a statement that is refused, and what to try in its place."""
 import difflib
 
-from .definitions import definitions, heading_of
+from .definitions import RELVARS, Kind, definitions, heading_of
 from .habits import renamed_type
 from .places import as_written, in_a_list, shortened
 
@@ -43,14 +43,14 @@ def nearest(word, known):
 def known_names(asking, found):
     """The names that could stand in the place of one that is not known."""
     every = definitions(asking.session)
-    types = [one for one in every if one.kind == "TYPE"]
+    types = [one for one in every if one.kind is Kind.TYPE]
     if found.part.kind == "type":
         return [*(one.name for one in types), "INTEGER", "CHAR", "BOOLEAN"]
     if found.part.kind == "selector":
         return [one.name for one in types]
     if found.part.kind == "component":
         return [f"THE_{name}" for one in types for name, _ in one.components[0]]
-    relvars = [one.name for one in every if one.kind == "VAR"]
+    relvars = [one.name for one in every if one.kind in RELVARS]
     return [*asking.in_scope(found.frames), *relvars]
 
 
@@ -96,7 +96,8 @@ def tried(asking, found, texts, kinds):
 def of_constraint(asking, found):
     """What the constraint of a selector's type asks."""
     name = asking.text[found.part.begins : found.part.ends].split("(")[0].strip()
-    types = [one for one in definitions(asking.session) if (one.kind, one.name) == ("TYPE", name)]
+    every = definitions(asking.session)
+    types = [one for one in every if (one.kind, one.name) == (Kind.TYPE, name)]
     constraint = types[0].components[1] if types else None
     return f"{name} needs {shortened(as_written(constraint), LONGEST)}" if constraint else None
 
@@ -158,7 +159,8 @@ def of_single_values(_, kind, texts, kinds):
 
 def of_components(asking, kind, texts, kinds):
     """A user value beside one of the type of its component."""
-    types = {one.name: one for one in definitions(asking.session) if one.kind == "TYPE"}
+    every = definitions(asking.session)
+    types = {one.name: one for one in every if one.kind is Kind.TYPE}
     for user, value in ((0, 1), (1, 0)):
         components = types[kinds[user]].components[0] if kinds[user] in types else []
         if len(components) == 1 and components[0][1] == kinds[value] and kind:

@@ -5,9 +5,7 @@ NOT MATCHING, and several of these with AND between.
 """
 from dataclasses import dataclass
 
-from .grammar import Stop, parsed
-from .lexemes import tokens
-from .parts import Parts, written
+from .parts import of_expression
 
 BELOW, ABOVE = {"<=", "="}, {">="}
 
@@ -37,24 +35,16 @@ class Reading:
     """Reads the expression of a constraint, by the attributes of each relvar."""
 
     def __init__(self, expression, attributes):
-        self.text = f"WRITE {expression};"
+        self.text, self.tree = of_expression(expression)
         self.attributes = attributes
-
-    def tree(self):
-        tree = parsed(self.text)
-        return None if isinstance(tree, Stop) else Parts(self.text).expression(written(tree))
 
     def text_of(self, part):
         return self.text[part.begins : part.ends]
 
-    def is_in_parentheses(self, part):
-        return part.kind == "" and self.text_of(part).startswith("(")
-
     def inclusions(self, part):
         """The inclusions that the part demands, or None where it demands something else too."""
+        part = part.bare
         operands = [one for one, _ in part.operands]
-        if self.is_in_parentheses(part):
-            return self.inclusions(operands[0])
         if part.kind == "AND":
             found = [self.inclusions(one) for one in operands]
             return None if None in found else found[0] + found[1]
@@ -67,8 +57,7 @@ class Reading:
 
     def of_nothing(self, part):
         """Those of a MINUS or a NOT MATCHING that has to be empty."""
-        while self.is_in_parentheses(part):
-            part = part.operands[0][0]
+        part = part.bare
         if part.kind not in ("MINUS", "NOT MATCHING"):
             return None
         (left, _), (right, _) = part.operands
@@ -88,32 +77,26 @@ class Reading:
 
     def side(self, part):
         """The side that a part is: a relvar, projected and renamed; None where it is no such."""
-        if self.is_in_parentheses(part):
-            return self.side(part.operands[0][0])
+        part = part.bare
         if part.kind == "name" and self.text_of(part) in self.attributes:
             name = self.text_of(part)
             return Side(name, {one: one for one in self.attributes[name]})
         if part.kind not in ("attributes", "rename"):
             return None
-        operand = part.operands[0][0]
-        side = self.side(operand)
-        return side and self.behind(side, part.kind, self.text[operand.ends : part.ends])
+        side = self.side(part.operands[0][0])
+        return side and self.behind(side, part)
 
-    def behind(self, side, kind, text):
-        """The side, projected or renamed by what stands behind it."""
-        every = list(tokens(text))
-        names = [text[one.begins : one.ends] for one in every if one.kind == "name"]
-        known = side.attributes
-        if kind == "rename":
-            new = dict(zip(names[::2], names[1::2]))
+    def behind(self, side, part):
+        """The side, projected or renamed as the part is."""
+        names, known = [*map(self.text_of, part.names)], side.attributes
+        if part.kind == "rename":
+            new = dict(zip(names, map(self.text_of, part.added)))
             return Side(side.relvar, {new.get(one, one): of for one, of in known.items()})
-        is_rest = any(one.kind == "ALL" for one in every)
-        kept = {one: of for one, of in known.items() if (one in names) != is_rest}
+        kept = {one: of for one, of in known.items() if (one in names) != part.is_all_but}
         return Side(side.relvar, kept)
 
 
 def inclusions(expression, attributes):
     """The inclusions that a constraint's expression demands, where it demands nothing else."""
     reading = Reading(expression, attributes)
-    tree = reading.tree()
-    return reading.inclusions(tree) or [] if tree is not None else []
+    return reading.inclusions(reading.tree) or [] if reading.tree is not None else []

@@ -1,6 +1,5 @@
 """Relations with the attributes of a key in front, and their tuples in the order of that key."""
-from .catalog import RELVARS
-from .dumps import keys_of
+from .definitions import RELVARS
 from .lexemes import tokens
 from .literals import Relation
 
@@ -10,7 +9,7 @@ def key_of(definitions, statement, names):
     relvars = {one.name: one for one in definitions if one.kind in RELVARS}
     words = [statement[one.begins : one.ends] for one in tokens(statement) if one.kind == "name"]
     for word in dict.fromkeys(words):
-        for key in keys_of(relvars[word]) if word in relvars else []:
+        for key in relvars[word].keys if word in relvars else []:
             if key and set(key) <= set(names):
                 return key
     return []

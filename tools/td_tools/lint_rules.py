@@ -1,12 +1,19 @@
 """What a statement may say that is seldom meant: each with its place and what is often meant."""
 from dataclasses import dataclass
+from itertools import groupby
+from operator import itemgetter
 
+from . import parts
 from .candidate_keys import Operand, common_attributes
-from .expressions import Form, parsed
+from .grammar import Stop, parsed
+from .lexemes import tokens
+from .statements import Reader
 from .tables import visible
 
 LONGEST_LABEL = 40
 OFTEN = "; often meant: "
+COMPARISONS = {"=", "<>", "<", "<=", ">", ">=", "IN"}
+AGGREGATING = {"SUM", "MAX", "MIN", "SUMMARIZE"}
 
 
 @dataclass(frozen=True)
@@ -39,6 +46,12 @@ def listed(names):
     return "{" + ", ".join(sorted(names)) + "}"
 
 
+def framed(part):
+    """The parts in a part, each with its frame: of what SUMMARIZE adds that which is aggregated."""
+    for one, frame in part.within():
+        yield from one.operands if one.kind == "item" else [(one, frame)]
+
+
 class Linter:
     """Looks through a statement, with the schema of the database that it is to be run on."""
 
@@ -49,93 +62,76 @@ class Linter:
         # Of each scope, by its depth, whether a name is its attribute, and what hides one of it.
         self.named, self.hidden = [], []
 
-    def warn(self, node, says):
-        self.remarks.append(Remark(node.begins, says))
+    def warn(self, part, says):
+        self.remarks.append(Remark(part.begins, says))
 
     def around(self):
         return tuple(scope.text for scope in self.scopes)
 
-    def operand(self, node):
-        return Operand(self.text, node, self.around(), self.schema)
+    def operand(self, part):
+        return Operand(self.text, part, self.around(), self.schema)
 
-    def scope(self, node, is_aggregate=False):
-        """The scope of an operand's tuples."""
-        operand = self.operand(node)
-        is_asked = None not in self.around()
-        return Scope(operand.source, operand.heading() if is_asked else None, is_aggregate)
+    def scope(self, part):
+        """The scope of the tuples of a part's first operand."""
+        operand = self.operand(part.operands[0][0])
+        attributes = operand.heading() if None not in self.around() else None
+        return Scope(operand.source, attributes, part.kind in AGGREGATING)
 
     # ---- going through
 
-    def visit(self, node):
-        visits = {
-            Form.NAME: self.visit_name,
-            Form.COMPARISON: self.visit_comparison,
-            Form.RESTRICTION: self.visit_restriction,
-            Form.COMBINATION: self.visit_combination,
-            Form.EXTEND: self.visit_extend,
-            Form.SUMMARIZE: self.visit_summarize,
-            Form.AGGREGATE: self.visit_aggregate,
-            Form.TYPE: self.visit_type,
-            Form.DELETE: self.visit_change,
-            Form.UPDATE: self.visit_change,
-        }
-        visits.get(node.form, self.visit_all)(node)
+    def visit_statement(self, read):
+        """Looks through a statement's parts: the constraint of a type may name its components."""
+        if read.kind == "TYPE":
+            names = [self.text[name.begins : name.ends] for name, _ in read.typed]
+            self.visit_within(Scope(None, frozenset(names)), read.parts)
+        else:
+            self.visit_all(read.parts)
 
-    def visit_all(self, node):
-        for part in node.parts:
+    def visit_all(self, several):
+        for part in several:
             self.visit(part)
 
-    def visit_within(self, scope, nodes):
+    def visit(self, part):
+        """Looks through a part, of which parentheses say nothing."""
+        part = part.bare
+        if part.kind == "name" and self.scopes:
+            self.visit_name(part)
+        elif part.kind in COMPARISONS and self.is_of_itself(part):
+            self.visit_of_itself(part)
+        else:
+            self.visit_operands(part)
+
+    def visit_operands(self, part):
+        """Looks through what is in a part: at once through all that has the same frame."""
+        if part.kind == "JOIN" and None not in self.around():
+            self.check_join(self.operand(part))
+        for frame, several in groupby(framed(part), key=itemgetter(1)):
+            inner = [one for one, _ in several]
+            if isinstance(frame, parts.Scope):
+                self.visit_scoped(part, inner)
+            else:
+                self.visit_all(inner)
+
+    def visit_scoped(self, part, inner):
+        """Looks through what is evaluated for each tuple of a part's first operand. That is the
+        condition of a restriction, also of DELETE and UPDATE, where the part has no other one."""
+        scope = self.scope(part)
+        is_named, hidden = self.visit_within(scope, inner)
+        condition, is_condition = inner[0].bare, part.kind in ("WHERE", "")
+        is_varying = scope.attributes and condition.kind not in parts.LITERALS
+        if is_condition and len(part.operands) == 2 and is_varying and not (is_named or hidden):
+            says = f"the condition names no attribute of {scope.label}, and so holds for all of "
+            self.warn(condition, f"{says}its tuples or for none{self.meant(scope, condition)}")
+
+    def visit_within(self, scope, several):
         """Looks through what is evaluated for each tuple. It gives whether an attribute of the
         operand is named, and whether one of it is hidden."""
         self.scopes.append(scope)
         self.named.append(scope.attributes is None)
         self.hidden.append(set())
-        for node in nodes:
-            self.visit(node)
+        self.visit_all(several)
         self.scopes.pop()
         return self.named.pop(), self.hidden.pop()
-
-    def visit_condition(self, operand, condition):
-        """The condition of WHERE on an operand."""
-        scope = self.scope(operand)
-        is_named, hidden = self.visit_within(scope, [condition])
-        is_constant = condition.form == Form.CONSTANT or not scope.attributes
-        if not is_named and not hidden and not is_constant:
-            says = f"the condition names no attribute of {scope.label}, and so holds for all of "
-            self.warn(condition, f"{says}its tuples or for none{self.meant(scope, condition)}")
-
-    def visit_restriction(self, node):
-        operand, condition = node.parts
-        self.visit(operand)
-        self.visit_condition(operand, condition)
-
-    def visit_change(self, node):
-        """DELETE or UPDATE."""
-        target, *rest = node.parts
-        if node.names:
-            self.visit_condition(target, rest.pop(0))
-        self.visit_within(self.scope(target), rest)
-
-    def visit_extend(self, node):
-        operand, *additions = node.parts
-        self.visit(operand)
-        self.visit_within(self.scope(operand), additions)
-
-    def visit_aggregate(self, node):
-        operand, value = node.parts
-        self.visit(operand)
-        self.visit_within(self.scope(operand, is_aggregate=True), [value])
-
-    def visit_summarize(self, node):
-        operand, *rest = node.parts
-        self.visit(operand)
-        if node.names[0] == "PER":
-            self.visit(rest.pop(0))
-        self.visit_within(self.scope(operand, is_aggregate=True), rest)
-
-    def visit_type(self, node):
-        self.visit_within(Scope(None, frozenset(node.names)), node.parts)
 
     # ---- names
 
@@ -150,8 +146,8 @@ class Linter:
             if name in attributes:
                 yield depth
 
-    def visit_name(self, node):
-        (name,) = node.names
+    def visit_name(self, part):
+        name = self.operand(part).source
         depth, *hidden = [*self.depths(name)] or [None]
         if depth is None:
             # A name that is no relvar's either is td's to refuse.
@@ -167,15 +163,15 @@ class Linter:
             self.hidden[outer].add((name, scope))
             other = self.scopes[outer].label
             says = f"{name} is the attribute of {scope.label} here, and hides that of {other}"
-            self.warn(node, f"{says}{OFTEN}that one, with {name} of the inner one renamed")
+            self.warn(part, f"{says}{OFTEN}that one, with {name} of the inner one renamed")
 
-    def visit_comparison(self, node):
-        left, right = node.parts
-        is_itself = left.form == right.form == Form.NAME and left.names == right.names
-        if not is_itself:
-            self.visit_all(node)
-            return
-        (name,) = left.names
+    def is_of_itself(self, part):
+        """Whether a comparison is one of a name with itself."""
+        left, right = (self.operand(one) for one, _ in part.operands)
+        return left.part.kind == right.part.kind == "name" and left.source == right.source
+
+    def visit_of_itself(self, part):
+        name = self.operand(part.operands[0][0]).source
         depth, *hidden = [*self.depths(name)] or [None]
         says = f"{name} is compared with itself"
         if depth is not None:
@@ -185,38 +181,26 @@ class Linter:
             self.hidden[outer].add((name, self.scopes[depth]))
             says += f": both are of {inner}, which hides that of {other}{OFTEN}one of the two, "
             says += f"with {name} of the inner one renamed"
-        self.warn(node, says)
+        self.warn(part, says)
 
     def meant(self, scope, condition):
         """What is often meant by a condition that names no attribute."""
-        for text in self.texts(condition):
-            if scope.attributes and text in scope.attributes:
+        operand = self.operand(condition)
+        texts = [one for one in tokens(operand.source) if one.kind == "text"]
+        for text in (operand.source[one.begins + 1 : one.ends - 1] for one in reversed(texts)):
+            if text in scope.attributes:
                 return f"{OFTEN}{text} without quotes"
-        if self.operand(condition).relvars():
+        if operand.relvars():
             return f"{OFTEN}MATCHING, PER, or a comparison with an attribute of {scope.label}"
         return ""
 
-    def texts(self, node):
-        waiting = [node]
-        while waiting:
-            one = waiting.pop()
-            waiting += one.parts
-            source = self.text[one.begins : one.ends]
-            if one.form == Form.CONSTANT and source.startswith("'"):
-                yield source[1:-1]
-
     # ---- joins
-
-    def visit_combination(self, node):
-        if node.names == ("JOIN",) and None not in self.around():
-            self.check_join(self.operand(node))
-        self.visit_all(node)
 
     def check_join(self, join):
         """Warns where both sides may have several tuples for one of the other."""
-        left, right = join.part(0), join.part(1)
+        left, right = join.operand(0), join.operand(1)
         common = common_attributes(join)
-        is_given = Form.RELATION in (left.node.form, right.node.form)
+        is_given = "RELATION" in (left.part.kind, right.part.kind)
         if common is None or is_given or left.relvars() & right.relvars():
             return
         keys = left.keys() | right.keys()
@@ -229,11 +213,12 @@ class Linter:
         else:
             says = f"the JOIN is on {listed(common)}, which includes no key of {labels[0]} or of "
             says += f"{labels[1]}{OFTEN}other common attributes, by a projection or a RENAME before"
-        self.warn(right.node, says)
+        self.warn(right.part, says)
 
 
 def remarks_on(statement, schema):
-    """The remarks on a statement that parses, in the order of their places."""
-    linter = Linter(statement, schema)
-    linter.visit(parsed(statement))
+    """The remarks on a statement, in the order of their places: none where it is not spelled."""
+    tree, linter = parsed(statement), Linter(statement, schema)
+    if not isinstance(tree, Stop):
+        linter.visit_statement(Reader(statement).statement(tree))
     return sorted(linter.remarks, key=lambda one: one.at)

@@ -5,9 +5,9 @@ else is known: where a refusal stands, why, and which keys the tuples of an answ
 """
 from dataclasses import dataclass
 
-from .answers import Session, is_refusal
+from .answers import Session, decoded, encoded, is_refusal
 from .lexemes import tokens
-from .reports import ANSWER, decoded, told, why
+from .reports import ANSWER, told, why
 
 # What an answer that is a relation begins with, and what may change the keys of a relvar.
 RELATION, DEFINING = b"RELATION ", {"VAR", "DROP", "ROLLBACK"}
@@ -90,7 +90,7 @@ def place_of(session, piece, answer):
 
 def reason_of(session, piece):
     """The tuples by which the statement breaks keys and constraints, in lines."""
-    return {"why": decoded(why(session, piece.text.encode("utf-8", "surrogateescape")))}
+    return {"why": decoded(why(session, encoded(piece.text)))}
 
 
 def first_kind(piece):

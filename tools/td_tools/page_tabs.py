@@ -7,13 +7,13 @@ import threading
 import time
 from dataclasses import dataclass, field
 
-from .answers import Cutter, Session, is_refusal
-from .catalog import RELVARS, Catalog, Kind
+from .answers import Cutter, Session, decoded, is_refusal
+from .catalog import Catalog
 from .command import Failure
-from .definitions import definitions
+from .definitions import RELVARS, Kind, definitions
 from .diagrams import diagram_svg
 from .page_answers import (
-    DEFINING, RELATION, answer_of, chosen, decoded, first_event, first_kind, place_of, reason_of,
+    DEFINING, RELATION, answer_of, chosen, first_event, first_kind, place_of, reason_of,
     relvar_written,
 )
 from .query_steps import steps
@@ -205,7 +205,7 @@ class Tab:
         except Failure:
             self.restore()
             return
-        self.keys = {one.name: one.keys for one in every if one.kind == "VAR"}
+        self.keys = {one.name: one.keys for one in every if one.kind in RELVARS}
         yield self.keys_of(name)
 
     def go_back(self, number):
@@ -282,18 +282,12 @@ def named(one):
     return {"kind": one.kind.value, "name": one.name}
 
 
-def names_of(key):
-    """The attributes of a key's text."""
-    inner = key.strip("{}")
-    return inner.split(", ") if inner else []
-
-
 def summary(catalog, one):
     """A definition in a few words: of a base relvar, whose value may be long, no statement."""
     is_base = one.kind is Kind.BASE
     return {
         **named(one),
-        "keys": [names_of(key) for key in one.keys],
+        "keys": one.keys,
         "count": catalog.count(one) if is_base else "",
         "statement": "" if is_base else one.statement,
     }

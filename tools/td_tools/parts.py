@@ -6,15 +6,14 @@ operand whose tuples they are, and the branch of an IF under its condition.
 import os
 from dataclasses import dataclass, field
 
-from .grammar import Node, Run, of_run, parsed
+from .grammar import LEVELS, Node, Run, Stop, of_run, parsed
 
 # An attribute that no script has.
 FRESH = "X" + os.urandom(6).hex()
-FOLDED = {
-    *("expression", "disjunction", "conjunction", "negation", "comparison", "relational", "sum"),
-    *("product", "factor", "prefixed"),
-}
 POSTFIXES = {"attributes", "rename", "group", "ungroup"}
+LITERALS = {"number", "text", "TRUE", "FALSE", "TABLE_DEE", "TABLE_DUM"}
+# Forms whose operands stand between signs, as that of a pair of parentheses does, of no kind.
+SIGNED = {"selector": "selector", "component": "component", "literal": "number"}
 
 
 @dataclass(frozen=True)
@@ -79,8 +78,9 @@ class Part:
     question: str
     # The parts in it, each with the frame of the questions about it, or None.
     operands: list = field(default_factory=list)
-    # Tokens that name attributes of its first operand.
+    # Tokens that name attributes of its first operand, and whether all but these are meant.
     names: list = field(default_factory=list)
+    is_all_but: bool = False
     is_expression: bool = True
     # A part that is no operand, and whose type tells.
     beside: object = None
@@ -93,6 +93,18 @@ class Part:
     def asked(self):
         """The question about the part alone."""
         return self.question
+
+    def within(self):
+        """The parts right in it, each with its frame."""
+        return self.operands
+
+    @property
+    def bare(self):
+        """The part without the parentheses around it."""
+        one = self
+        while one.kind == "" and one.is_expression:
+            one = one.operands[0][0]
+        return one
 
 
 class Parts:
@@ -122,24 +134,25 @@ class Parts:
         return scope(self.text_of(part))
 
     def names(self, node):
-        """The names in a list of attributes: each a part that is asked of the operand."""
-        return [one for one in leaves(node) if one.kind == "name"]
+        """The names in a list of attributes, and whether all but these are meant."""
+        every = leaves(node)
+        is_all_but = any(one.kind == "ALL" for one in every)
+        return [one for one in every if one.kind == "name"], is_all_but
 
     def expression(self, node):
         """The part that an expression of any level is."""
         if not isinstance(node, Node):
             return self.of_node(node, node.kind)
-        parts = node.parts()
+        parts = node.parts
         if len(parts) == 1:
             return self.expression(parts[0])
-        if node.name in FOLDED:
+        if node.name in LEVELS and node.name != "primary":
             return self.folded(parts)
         if node.name in ("relation", "tuple", "extend", "summarize", "choice", "call"):
             return getattr(self, node.name)(node, parts)
-        # What is left has its operands between signs: NOT p, (e), T(e, ..), THE_C(e), -5.
-        kind = {"selector": "selector", "component": "component"}.get(node.name, "")
+        # What is left has its operands between signs: (e), T(e, ..), THE_C(e), -5.
         operands = [(self.expression(one), None) for one in operands_in(parts)]
-        return self.of_node(node, kind, operands if node.name != "literal" else ())
+        return self.of_node(node, SIGNED.get(node.name, ""), operands)
 
     def folded(self, parts):
         """Operands with operators between, before or behind: grouped from the left."""
@@ -170,14 +183,16 @@ class Parts:
         return self.made(begins, ends, kind, [(left, None), (right, frame)])
 
     def postfix(self, operand, node):
-        (node,) = node.parts() if node.name == "postfix" else (node,)
-        names = self.names(node)
-        if node.name == "rename":
-            names = names[::2]
-        elif node.name == "group":
-            names = names[:-1]
+        (node,) = node.parts if node.name == "postfix" else (node,)
+        kind, added, (names, is_all_but) = node.name, [], self.names(node)
+        if kind == "rename":
+            names, added = names[::2], names[1::2]
+        elif kind == "group":
+            kind, names = leaves(node)[0].kind, names[:-1]
         begins = operand.begins - self.shift
-        return self.made(begins, node.ends, node.name, [(operand, None)], names)
+        part = self.made(begins, node.ends, kind, [(operand, None)], names)
+        part.is_all_but, part.added = is_all_but, [*map(self.moved, added)]
+        return part
 
     def call(self, node, parts):
         """COUNT(r), IS_EMPTY(r), SUM(r, e), MAX(r, e), MIN(r, e)."""
@@ -198,20 +213,20 @@ class Parts:
 
     def elements(self, listed):
         """The places of the tuples in a list, with their trees where these are known."""
-        for one in listed.parts():
+        for one in listed.parts:
             if isinstance(one, Run):
                 yield from ((begins, ends, None) for begins, ends in of_run(one, self.text))
             elif is_operand(one):
                 yield one.begins, one.ends, one
 
     def tuple(self, node, parts):
-        values = [one.parts() for one in parts if isinstance(one, Node)]
+        values = [one.parts for one in parts if isinstance(one, Node)]
         return self.of_node(node, "TUPLE", [(self.expression(one[1]), None) for one in values])
 
     def extend(self, node, parts):
         """EXTEND r ADD (e AS A, ..) or EXTEND r : {A := e, ..}."""
         operand, replaces = self.expression(parts[1]), parts[2].kind == ":"
-        added = [one.parts() for one in nodes(parts[4], "setting" if replaces else "addition")]
+        added = [one.parts for one in nodes(parts[4], "setting" if replaces else "addition")]
         added = added if replaces else [one[::-1] for one in added]
         operands = [(self.expression(one), self.scope(operand)) for _, _, one in added]
         part = self.of_node(node, "EXTEND", [(operand, None), *operands])
@@ -219,24 +234,25 @@ class Parts:
         return part
 
     def summarize(self, node, parts):
-        operand, per = self.expression(parts[1]), parts[2].parts()
-        operands, names, said = [(operand, None)], [], self.text_of(operand)
+        operand, per = self.expression(parts[1]), parts[2].parts
+        operands, said = [(operand, None)], self.text_of(operand)
+        names, is_all_but = ([], False) if len(per) > 2 else self.names(per[1])
         frame, lacking = self.scope(operand), ""
         if len(per) > 2:
             groups = self.expression(per[2])
             operands.append((groups, None))
             frame = scope(said, f"({said}) MATCHING ({self.text_of(groups)})")
             lacking = f"({self.text_of(groups)}) NOT MATCHING ({said})"
-        else:
-            names = self.names(per[1])
         front = self.text[node.begins : parts[4].ends]
         for item in [one for one in parts[5:] if isinstance(one, Node)]:
             operands.append((self.item(item, front, frame, lacking), None))
-        return self.of_node(node, "SUMMARIZE", operands, names)
+        part = self.of_node(node, "SUMMARIZE", operands, names)
+        part.is_all_but = is_all_but
+        return part
 
     def item(self, node, front, frame, lacking):
         """An aggregate of SUMMARIZE, asked behind what stands before the first one."""
-        operands = [(self.expression(one), frame) for one in operands_in(node.parts()[1:])]
+        operands = [(self.expression(one), frame) for one in operands_in(node.parts[1:])]
         part = self.of_node(node, "item", operands)
         part.question = f"IS_EMPTY({front}{self.text[node.begins : node.ends]}))"
         part.is_expression, part.lacking = False, lacking
@@ -251,7 +267,7 @@ class Parts:
     def heading(self, node):
         """A heading, in which types may be unknown and names twice."""
         said = self.text[node.begins : node.ends]
-        found = [one.parts()[1] for one in nodes(node, "attribute")]
+        found = [one.parts[1] for one in nodes(node, "attribute")]
         operands = [(self.type(one), None) for one in found]
         begins, ends = node.begins + self.shift, node.ends + self.shift
         question = f"IS_EMPTY(RELATION {said} {{}})"
@@ -259,7 +275,7 @@ class Parts:
 
     def type(self, node):
         """A type: a name, or what has a heading."""
-        parts = node.parts()
+        parts = node.parts
         operands = [(self.heading(one), None) for one in parts if isinstance(one, Node)]
         begins, ends = node.begins + self.shift, node.ends + self.shift
         question = is_type(self.text[node.begins : node.ends])
@@ -300,6 +316,14 @@ class Element(Part):
     def asked(self):
         return self.elements.question(self.number, self.number)
 
+    @property
+    def is_plain(self):
+        """Whether it has numbers, texts and the like alone."""
+        return self.elements.places[self.number][2] is None
+
+    def within(self):
+        return [] if self.is_plain else [(self.inner(), None)]
+
     def inner(self):
         """The expression that it is."""
         parts, node = self.elements.parts, self.elements.places[self.number][2]
@@ -313,13 +337,13 @@ def leaves(node):
     """The tokens of a tree."""
     if not isinstance(node, Node):
         return [node]
-    return [leaf for one in node.parts() for leaf in leaves(one)]
+    return [leaf for one in node.parts for leaf in leaves(one)]
 
 
 def nodes(node, name):
     """The trees of this name right in a tree, or in its list."""
     found = []
-    for one in node.parts():
+    for one in node.parts:
         if isinstance(one, Node):
             found += [one] if one.name == name else nodes(one, name)
     return found
@@ -327,7 +351,15 @@ def nodes(node, name):
 
 def written(tree):
     """The expression of a statement WRITE."""
-    return tree.parts()[0].parts()[1]
+    return tree.parts[0].parts[1]
+
+
+def of_expression(expression):
+    """A statement that writes an expression, and the part of it that the expression is, or None
+    where it is not spelled."""
+    text = f"WRITE {expression};"
+    tree = parsed(text)
+    return text, None if isinstance(tree, Stop) else Parts(text).expression(written(tree))
 
 
 def is_operand(one):
@@ -350,7 +382,7 @@ def operands_in(parts):
     found = []
     for one in parts:
         if isinstance(one, Node) and one.name == "list":
-            found += operands_in(one.parts())
+            found += operands_in(one.parts)
         elif isinstance(one, Node) and is_operand(one):
             found.append(one)
     return found

@@ -5,16 +5,16 @@ attribute of that operand.
 """
 from dataclasses import dataclass, field
 
+from .answers import decoded, encoded
 from .definitions import heading_of
 from .faults import type_in
 from .grammar import Node, Stop, parsed
 from .lexemes import tokens
-from .parts import FRESH, Branch, Element, Scope, nodes
+from .parts import FRESH, LITERALS, Branch, Element, Scope, nodes
 from .statements import Reader
 
 OK, TRUE, REFUSED = b"OK\n", b"TRUE\n", b"REFUSED "
-# Parts that say what they are, and parts that are no values.
-LITERALS = {"number", "text", "TRUE", "FALSE", "TABLE_DEE", "TABLE_DUM"}
+# Parts that are no values.
 NO_VALUES = {"heading", "type"}
 # A part of a part is asked for at most so many tuples, and in at most so many operands.
 AT_MOST, DEEPEST = 10_000, 4
@@ -36,10 +36,6 @@ class Step:
     # The operands for whose tuples the part has a value, the outermost first, and its attribute.
     operands: list[str] = field(default_factory=list)
     name: str = ""
-
-
-def encoded(text):
-    return text.encode("utf-8", "surrogateescape")
 
 
 def spelled(text, frames, name):
@@ -170,8 +166,7 @@ class Walk:
     def of_part(self, part, frames):
         """The step of a part, or those of its parts where it shows nothing more."""
         if isinstance(part, Element):
-            is_plain = part.elements.places[part.number][2] is None
-            return [] if is_plain else self.inner(part.inner(), frames)
+            return [] if part.is_plain else self.inner(part.inner(), frames)
         if part.kind in LITERALS or part.kind in NO_VALUES:
             return []
         if part.kind == "" or not part.is_expression:
@@ -245,19 +240,19 @@ def steps(session, statement):
     The last step has what td answers to the statement, or what an accepted assignment makes of its
     target. The session is left as it was.
     """
-    text = statement.decode("utf-8", "surrogateescape")
+    text = decoded(statement)
     tree = parsed(text)
     if isinstance(tree, Stop):
         answer, _ = tried(session, statement, [])
         return [Step(text.strip().removesuffix(";"), answer)]
-    body = tree.parts()[0]
+    body = tree.parts[0]
     if not isinstance(body, Node):
         return []  # The empty statement.
     read, walk = Reader(text).statement(tree), Walk(session, text)
     if read.targets:
         texts = [text[one.begins : one.ends] for one in nodes(body, "assignment")]
         return of_assignments(walk, read, texts, statement)
-    if getattr(body.parts()[0], "kind", "") != "WRITE":
+    if getattr(body.parts[0], "kind", "") != "WRITE":
         return []
     (part,) = read.parts
     return [Step(walk.text_of(part), session.answer(statement), walk.inner(part, ()))]

@@ -6,7 +6,7 @@ beside it; then the line of the script, with a caret below the column.
 import os
 import re
 
-from .answers import Cutter, Session, is_refusal
+from .answers import Cutter, Session, decoded, encoded, is_refusal
 from .breaches import breaches
 from .faults import fault
 from .grammar import Stop, parsed
@@ -21,10 +21,6 @@ SCAN, SYNTAX = 1, 2
 # The causes from here on may come of a key or a constraint.
 FIRST_OF_VALUES = 20
 TOO_HIGH = "; it is spelled, but more than 400 nodes high"
-
-
-def decoded(statement):
-    return statement.decode("utf-8", "surrogateescape")
 
 
 def bad_token(text):
@@ -97,7 +93,7 @@ def lines_of(where, text, at, answer, says):
     name, line = where
     _, column = place(text, at)
     head = f"{decoded(name)}:{line}:{column}: {decoded(answer).strip()}{says}\n"
-    return (head + with_caret(text, at)).encode("utf-8", "surrogateescape")
+    return encoded(head + with_caret(text, at))
 
 
 def why(session, statement):
@@ -105,7 +101,7 @@ def why(session, statement):
 
     There are none where something else is refused of it.
     """
-    return breaches(session, decoded(statement)).encode("utf-8", "surrogateescape")
+    return encoded(breaches(session, decoded(statement)))
 
 
 class Refusal:
@@ -122,7 +118,7 @@ class Refusal:
         found, says = told(self.session, text, cause_of(self.answer), line)
         before = decoded(script.text[script.text.rfind(b"\n", 0, self.at) + 1 : self.at])
         before = before.removeprefix(BYTE_ORDER_MARK)
-        byte = self.at + len(text[:found].encode("utf-8", "surrogateescape"))
+        byte = self.at + len(encoded(text[:found]))
         name, line = script.place(min(byte, len(script.text) - 1))
         where = os.fsencode(name), line
         return lines_of(where, before + text, len(before) + found, self.answer, says)

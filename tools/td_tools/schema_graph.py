@@ -2,8 +2,9 @@
 from dataclasses import dataclass, field
 from enum import Enum
 
-from .answers import Session
-from .catalog import RELVARS, Catalog, Kind, StandIns, encoded
+from .answers import Session, encoded
+from .catalog import Catalog, StandIns
+from .definitions import RELVARS, Kind, in_order
 from .inclusions import inclusions
 
 
@@ -37,11 +38,7 @@ class Relvar:
 
     def in_order(self):
         """The attributes, each with its type: those of the first key come first."""
-        types = dict(self.heading)
-        first = self.keys[0] if self.keys else []
-        return [(one, types[one]) for one in first] + [
-            one for one in self.heading if one[0] not in first
-        ]
+        return in_order(self.heading, self.keys)
 
     def tuples(self):
         """How many tuples it has, in words."""
@@ -83,11 +80,6 @@ class Schema:
     edges: list = field(default_factory=list)
     # The statements of the user types, without TYPE.
     types: list = field(default_factory=list)
-
-
-def names_in(key):
-    inner = key.strip("{}")
-    return inner.split(", ") if inner else []
 
 
 def has_key(relvar, names):
@@ -134,8 +126,8 @@ class Making:
         made = Relvar(
             one.name,
             one.kind is Kind.VIRTUAL,
-            list(self.catalog.heading(one)),
-            [names_in(key) for key in one.keys],
+            self.catalog.heading(one),
+            one.keys,
             self.catalog.count(one),
         )
         if made.is_virtual:

@@ -1,10 +1,22 @@
 """What td says of the database that a session has: headings of expressions, and definitions."""
-from .catalog import RELVARS, type_of
-from .dumps import definitions
-from .literals import Reader
+from .answers import decoded, encoded
+from .definitions import RELVARS, definitions, heading_of
+from .literals import NoLiteral, Reader
 
 # The name of an attribute that no script is expected to have.
 FRESH = "_asked_"
+
+
+def type_of(session, expression):
+    """The type of an expression, as td writes it, or None where td refuses it. It is evaluated for
+    each tuple of a relation that has none, so that it can be asked of any expression."""
+    answer = decoded(session.answer(encoded(f"WRITE EXTEND TABLE_DUM ADD ({expression} AS A);")))
+    reader = Reader(answer)
+    try:
+        reader.take("RELATION {A ")
+        return reader.type()
+    except NoLiteral:
+        return None
 
 
 class Schema:
@@ -36,8 +48,8 @@ class Schema:
     def definition(self, name):
         """The definition of a relvar, if it is one."""
         if self.known is None:
-            dump = self.session.answer(b"DUMP;").decode()
-            self.known = {one.name: one for one in definitions(dump) if one.kind in RELVARS}
+            every = definitions(self.session)
+            self.known = {one.name: one for one in every if one.kind in RELVARS}
         return self.known.get(name)
 
 
@@ -48,8 +60,3 @@ def names_of(kind, levels):
             return None
         ((_, kind),) = heading_of(kind)
     return [name for name, _ in heading_of(kind)] if kind.startswith("RELATION ") else None
-
-
-def heading_of(kind):
-    """The attributes of the text of a relation type."""
-    return Reader(kind.removeprefix("RELATION ")).heading()

@@ -5,10 +5,12 @@ looked for from the script's own folder, and may have such a line itself.
 """
 import os
 import re
+import subprocess
 from pathlib import Path
 
 from .answers import Script
 from .command import Failure, standard_input
+from .programs import td
 
 ON_DATABASE = re.compile(rb"(?:\xef\xbb\xbf)?[ \t]*//[ \t]*on[ \t]+([^\r\n]*\.td)[ \t\r]*(?:\n|\Z)")
 
@@ -51,3 +53,11 @@ def script_of(names):
             seen.add(place)
         seen.add(Path(name).resolve())
     return Script(files, databases)
+
+
+def dump_of(script):
+    """The dump of the database that a script leaves, and whether a statement was refused."""
+    ran = subprocess.run([td(), "dump"], input=script, stdout=subprocess.PIPE, check=False)
+    if ran.returncode not in (0, 1):
+        raise Failure(f"td ended with status {ran.returncode}")
+    return ran.stdout.decode("utf-8"), ran.returncode == 1

@@ -2,7 +2,7 @@
 import io
 import re
 
-from .answers import Script
+from .answers import Script, decoded
 from .literals import whole_lines
 from .reports import Refusal
 from .tables import shown, visible_lines
@@ -10,10 +10,6 @@ from .tables import shown, visible_lines
 # In whose place nothing is told.
 TYPED = "typed"
 PLACE_TYPED = re.compile(rf"{TYPED}:\d+:\d+: ")
-
-
-def decoded(answer):
-    return answer.decode("utf-8", "surrogateescape")
 
 
 def as_tables(answer):

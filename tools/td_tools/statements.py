@@ -59,10 +59,10 @@ class Reader(Parts):
     """Reads a statement's tree."""
 
     def statement(self, tree):
-        body = tree.parts()[0]
-        first, *others = body.parts()
+        body = tree.parts[0]
+        first, *others = body.parts if isinstance(body, Node) else tree.parts
         if isinstance(first, Node):
-            one = first.parts()[0] if first.name in ("definition", "transaction") else first
+            one = first.parts[0] if first.name in ("definition", "transaction") else first
             read = getattr(self, one.name, None) if isinstance(one, Node) else None
             return read(one) if read else Statement([])
         return Statement([self.expression(one) for one in others])
@@ -75,7 +75,7 @@ class Reader(Parts):
         return Part(node.begins, node.ends, "", question, operands, [*names], is_expression=False)
 
     def assignments(self, node):
-        every = [one.parts() for one in nodes(node, "assignment")]
+        every = [one.parts for one in nodes(node, "assignment")]
         read = [self.assignment(one) for one in every]
         return Statement(read, targets=[one.operands[0][0] for one in read])
 
@@ -83,7 +83,7 @@ class Reader(Parts):
         if not isinstance(parts[0], Node):
             return self.assigned(parts[0], parts[2])
         node = parts[0]
-        return getattr(self, node.name)(node.parts())
+        return getattr(self, node.name)(node.parts)
 
     def insert(self, parts):
         return self.assigned(parts[1], parts[2], parts[0])
@@ -102,7 +102,7 @@ class Reader(Parts):
         found = [one for one in parts if isinstance(one, Node) and one.name == "where"]
         if not found:
             return target, target
-        condition = self.expression(found[0].parts()[1])
+        condition = self.expression(found[0].parts[1])
         said = self.text_of(target)
         question = f"IS_EMPTY(({said}) WHERE ({self.text_of(condition)}))"
         operands = [(target, None), (condition, scope(said))]
@@ -121,14 +121,14 @@ class Reader(Parts):
         frame = scope(self.text_of(target), self.text_of(meant))
         for setting in nodes(parts[-2], "setting"):
             operands.append((self.setting(setting), frame))
-            names.append(setting.parts()[0])
+            names.append(setting.parts[0])
         listed = ", ".join(self.text[one.begins : one.ends] for one in names)
         question = f"IS_EMPTY(({self.text_of(target)}) {{{listed}}})"
         return self.whole(spanning(parts[0], parts[-1]), question, operands, names)
 
     def setting(self, node):
         """That the source may be the value of the attribute, which has its type."""
-        name, _, source = node.parts()
+        name, _, source = node.parts
         name, source = self.of_node(name, "name"), self.expression(source)
         said = f"IF TRUE THEN {self.text_of(source)} ELSE {self.text_of(name)} END IF"
         part = self.whole(node, has_value(said), [(source, None)])
@@ -136,9 +136,9 @@ class Reader(Parts):
         return part
 
     def base_relvar(self, node):
-        parts = node.parts()
+        parts = node.parts
         heading = self.heading(parts[4])
-        initial = [one.parts()[2] for one in nodes(node, "initial")]
+        initial = [one.parts[2] for one in nodes(node, "initial")]
         operands, said = [(heading, None)], f"RELATION {self.text_of(heading)} {{}}"
         source = self.expression(initial[0]) if initial else None
         if source:
@@ -153,13 +153,13 @@ class Reader(Parts):
         return Statement(read, None, parts[1], kind, keys=keys, **known)
 
     def virtual_relvar(self, node):
-        parts = node.parts()
+        parts = node.parts
         source = self.expression(parts[4])
         whole = self.whole(source, f"IS_EMPTY({self.text_of(source)})", [(source, None)])
         return self.declared(parts, "VAR", [whole], source=source)
 
     def constraint(self, node):
-        parts = node.parts()
+        parts = node.parts
         return self.declared(parts, "CONSTRAINT", [self.condition(parts[2])])
 
     def condition(self, node):
@@ -168,10 +168,10 @@ class Reader(Parts):
         return self.whole(source, f"NOT ({self.text_of(source)})", [(source, None)])
 
     def type_definition(self, node):
-        parts = node.parts()
+        parts = node.parts
         components = parts[4]
         said = self.text[components.begins : components.ends]
-        types = [(self.type(one.parts()[1]), None) for one in nodes(components, "attribute")]
+        types = [(self.type(one.parts[1]), None) for one in nodes(components, "attribute")]
         whole = self.whole(components, f"IS_EMPTY(RELATION {{{said}}} {{}})", types)
         read, root = [whole], None
         if len(parts) > 6:
@@ -180,12 +180,12 @@ class Reader(Parts):
         return Statement(read, root, parts[1], "TYPE", typed=typed_names(components))
 
     def drop(self, node):
-        _, kind, name = node.parts()
+        _, kind, name = node.parts
         return Statement([], None, name, kind.kind)
 
 
 def typed_names(node):
-    return [tuple(one.parts()) for one in nodes(node, "attribute")]
+    return [tuple(one.parts) for one in nodes(node, "attribute")]
 
 
 def spanning(first, last):

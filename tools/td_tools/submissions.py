@@ -8,9 +8,9 @@ import re
 import subprocess
 from dataclasses import dataclass, field
 
-from .answers import Script, Session, is_refusal
-from .catalog import Kind, decoded, encoded
+from .answers import Script, Session, decoded, encoded, is_refusal
 from .command import Failure
+from .definitions import Kind
 from .grading_key import OK
 from .lexemes import tokens
 from .limits import Limit, LimitMet

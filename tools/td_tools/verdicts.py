@@ -2,7 +2,7 @@
 from dataclasses import dataclass
 from enum import Enum
 
-from .catalog import decoded, encoded
+from .answers import decoded, encoded
 from .grading_key import Difference, some_tuples
 from .limits import LimitMet
 
