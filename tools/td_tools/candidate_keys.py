@@ -2,17 +2,32 @@
 
 Not all are found: where nothing tells, the whole heading is one.
 """
-from .parts import of_expression
+from .parts import Naming, of_expression
 
 
 class Operand:
-    """An expression in a text, with the operands around it whose attributes it may name."""
+    """An expression in a text, with the operands around it whose attributes it may name, and the
+    items of WITH, by their names, that it may name."""
 
-    def __init__(self, text, part, around, schema):
+    def __init__(self, text, part, around, schema, items=None):
         self.text, self.part, self.around, self.schema = text, part.bare, around, schema
+        self.items = items or {}
 
     def operand(self, place):
-        return Operand(self.text, self.part.operands[place][0], self.around, self.schema)
+        part, frame = self.part.operands[place]
+        if isinstance(frame, Naming):
+            return self.operand(place - 1).named_in(part, frame)
+        return Operand(self.text, part, self.around, self.schema, self.items)
+
+    def named_in(self, part, frame):
+        """A part that may name this item of WITH, the frame's last, and what this may name."""
+        items = {**self.items, frame.names[-1]: self}
+        return Operand(self.text, part, (*self.around, frame.last), self.schema, items)
+
+    @property
+    def item(self):
+        """The item of WITH that it names, if it does."""
+        return self.items.get(self.source) if self.part.kind == "name" else None
 
     @property
     def source(self):
@@ -26,14 +41,15 @@ class Operand:
         return [self.text[one.begins : one.ends] for one in tokens]
 
     def relvars(self):
-        """The relvars that are named in it."""
+        """The relvars that are named in it, also by the items of WITH that it names."""
         waiting, found = [self.part], []
         while waiting:
             one = waiting.pop()
             waiting += [inner for inner, _ in one.within()]
             found += [one] if one.kind == "name" else []
         every = set(self.names(found))
-        return {name for name in every if self.schema.definition(name) is not None}
+        relvars = {name for name in every - {*self.items} if self.schema.definition(name)}
+        return relvars.union(*(self.items[name].relvars() for name in every & {*self.items}))
 
     def keys(self):
         """Keys of the relation, each a set of names; none where its heading is not known."""
@@ -45,7 +61,10 @@ class Operand:
 
 
 def of_name(operand):
-    """The keys of a relvar; of a virtual one without any those of its expression."""
+    """The keys of a relvar; of a virtual one without any those of its expression. An item of WITH
+    has those of its own."""
+    if operand.item:
+        return operand.item.keys()
     known = operand.schema.definition(operand.source)
     if known is None:
         return set()
@@ -57,6 +76,10 @@ def of_name(operand):
 
 def of_first(operand):
     return operand.operand(0).keys()
+
+
+def of_with(operand):
+    return operand.operand(-1).keys()
 
 
 def of_extend(operand):
@@ -109,6 +132,7 @@ def of_join(operand):
 
 KEYS = {
     "name": of_name,
+    "WITH": of_with,
     "EXTEND": of_extend,
     "rename": of_rename,
     "GROUP": of_group,

@@ -17,6 +17,14 @@ class Explanation:
 
     def __init__(self, copy, text):
         self.copy, self.text = copy, text
+        # What gives the names of items of WITH around a part.
+        self.names = []
+
+    def written(self, expression):
+        """What td writes of an expression that these names are in scope of."""
+        for frame in reversed(self.names):
+            expression = frame.typed(expression)
+        return self.copy.value(expression)
 
     def said(self, part):
         return self.text[part.begins : part.ends]
@@ -25,7 +33,7 @@ class Explanation:
         return shortened(as_written(self.said(part)), 60)
 
     def is_true(self, part):
-        return self.copy.value(self.said(part)) == "TRUE"
+        return self.written(self.said(part)) == "TRUE"
 
     def of(self, part):
         """What makes the part FALSE."""
@@ -38,6 +46,11 @@ class Explanation:
         elif part.kind == "IF":
             condition, taken, other = operands
             yield from self.of(taken if self.is_true(condition) else other)
+        elif part.kind == "WITH":
+            result, frame = part.operands[-1]
+            self.names.append(frame)
+            yield from self.of(result)
+            self.names.pop()
         elif part.kind == "IS_EMPTY":
             (relation,) = operands
             yield f"{self.shown(relation)} must be empty, and has", self.value(relation)
@@ -51,7 +64,7 @@ class Explanation:
             yield f"{self.shown(part)} is FALSE", ""
 
     def value(self, part):
-        return self.copy.value(self.said(part))
+        return self.written(self.said(part))
 
     def is_relation(self, part):
         return self.value(part).startswith("RELATION ")
@@ -61,7 +74,7 @@ class Explanation:
         found = False
         for left, right in INCLUSIONS.get(kind, []):
             left, right = operands[left], operands[right]
-            value = self.copy.value(f"({self.said(left)}) MINUS ({self.said(right)})")
+            value = self.written(f"({self.said(left)}) MINUS ({self.said(right)})")
             if not value.endswith("{}"):
                 found = True
                 yield f"{self.shown(left)} has, and {self.shown(right)} has not", value
@@ -97,4 +110,4 @@ class Explanation:
         listed = self.said(short)[len(relation) :]
         counted = f"SUMMARIZE ({relation}) BY {listed} ADD (COUNT() AS {FRESH})"
         label = f"tuples of {self.shown(whole)} agree on {as_written(listed)}"
-        return label, self.copy.value(f"({relation}) MATCHING ({counted} WHERE {FRESH} > 1)")
+        return label, self.written(f"({relation}) MATCHING ({counted} WHERE {FRESH} > 1)")

@@ -9,11 +9,12 @@ WIDTH = 100
 STEP = 4
 OPENERS, CLOSERS = {"(", "{"}, {")", "}"}
 # What an expression stands behind, and what ends it: they go together as brackets do.
-BEGINNING, ENDING = {"EXTEND", "SUMMARIZE", "IF"}, {"ADD", ":", "END"}
+BEGINNING, ENDING = {"EXTEND", "SUMMARIZE", "IF", "WITH"}, {"ADD", ":", "END"}
 # Words behind which a parenthesis is no call's.
 BEFORE_PARENTHESIS = set(
     "WHERE OR AND NOT IN UNION D_UNION INTERSECT MINUS I_MINUS JOIN TIMES COMPOSE MATCHING TCLOSE "
-    "FROM EXTEND ADD SUMMARIZE PER IF THEN ELSE RENAME GROUP UNGROUP WRAP UNWRAP CONSTRAINT".split()
+    "FROM EXTEND ADD SUMMARIZE PER IF THEN ELSE RENAME GROUP UNGROUP WRAP UNWRAP CONSTRAINT WITH "
+    ":=".split()
 )
 # Operators from the loosest to the tightest.
 LEVELS = [
@@ -113,11 +114,30 @@ def opened(tokens, indent):
     return lines + rest[1:]
 
 
+def with_at(tokens):
+    """Where a WITH stands in no brackets. What is behind it is its own."""
+    places = enumerate(zip(tokens, outermost(tokens)))
+    return next((place for place, one in places if one == ("WITH", True)), None)
+
+
+def named(tokens, begin, indent):
+    """The lines of WITH (A := e, ..) : x, which begins there: a line for each item, and x below."""
+    depths = enumerate(zip(tokens, outermost(tokens)))
+    end = next(place for place, one in depths if place > begin and one == (":", True))
+    lines = [" " * indent + joined(tokens[: begin + 2])]
+    for item in items(tokens[begin + 2 : end - 1]):
+        lines += laid(item, indent + STEP)
+    return [*lines, " " * indent + ") :", *laid(tokens[end + 1 :], indent)]
+
+
 def laid(tokens, indent=0):
     """The lines of an expression's tokens."""
     line = " " * indent + joined(tokens)
     if len(line) <= WIDTH:
         return [line]
+    begin = with_at(tokens)
+    if begin is not None:
+        return named(tokens, begin, indent)
     parts = operands(tokens)
     if parts is None:
         return opened(tokens, indent)

@@ -3,6 +3,7 @@
 td is asked for the parts of a part: the first that is refused is gone into, up to one of which no
 part is refused.
 """
+import itertools
 from dataclasses import dataclass
 
 from . import declared
@@ -11,7 +12,7 @@ from .answers import decoded, encoded
 from .definitions import heading_of
 from .grammar import Stop, parsed
 from .literals import relation_of
-from .parts import FRESH, Element, Scope, is_type, scope
+from .parts import FRESH, Element, Naming, Scope, is_type, scope
 from .places import one_line, shortened
 from .statements import STATIC, VALUES, Reader
 
@@ -161,8 +162,11 @@ class Asking:
         (answer,) = self.answers([text.join(self.root.type)])
         return type_in(answer, depth)
 
-    def value(self, text):
-        """What td writes of an expression, without the line's end."""
+    def value(self, text, names=()):
+        """What td writes of an expression that these names are in scope of, without the line's
+        end."""
+        for frame in reversed(names):
+            text = frame.typed(text)
         return decoded(self.session.answer(encoded(f"WRITE {text};"))).removesuffix("\n")
 
     def type_of(self, part, frames):
@@ -180,13 +184,14 @@ class Asking:
         return heading_of(self.type(kind, ()) or "")
 
     def in_scope(self, frames):
-        """The names of the attributes that an expression may name there."""
-        return [
-            name
-            for number, frame in enumerate(frames)
-            if isinstance(frame, Scope)
-            for name in self.attributes(f"({frame.operand})", frames[:number])
-        ]
+        """The names of the attributes, and of items of WITH, that may be named there."""
+        found = []
+        for number, frame in enumerate(frames):
+            if isinstance(frame, Scope):
+                found += self.attributes(f"({frame.operand})", frames[:number])
+            elif isinstance(frame, Naming):
+                found += frame.names
+        return found
 
 
 def around(frames, frame):
@@ -216,6 +221,8 @@ def told_part(asking, found):
     if cause == NAME_UNKNOWN:
         return unknown(asking, found)
     operands = [(one, around(frames, frame)) for one, frame in operands_of(part)]
+    if part.kind == "WITH" and cause == HEADING:
+        return named_twice(asking, part, text)
     if part.kind == "EXTEND" and cause == HEADING:
         return there_already(asking, part, text, operands[0])
     kinds = [asking.type_of(*one) for one in operands]
@@ -242,21 +249,37 @@ def there_already(asking, part, text, operand):
     return Fault(part.begins, said(text, [kind]))
 
 
+def named_twice(asking, part, text):
+    """The name that WITH gives a second time."""
+    words = [asking.text[one.begins : one.ends] for one in part.added]
+    for place, token in enumerate(part.added):
+        if words[place] in words[:place]:
+            return Fault(token.begins, said(f"{words[place]} in {text}", [], "try another name"))
+    return Fault(part.begins, said(text, []))
+
+
+def names_in_front(frames):
+    """The frames in front of all others that give names to values."""
+    return tuple(itertools.takewhile(lambda one: isinstance(one, Naming), frames))
+
+
 def in_tuple(asking, found):
     """The first tuple for which the part is refused, where it is in the scope of tuples."""
-    if found.part.lacking and not found.frames:
-        lacking = relation_of(f"{asking.value(found.part.lacking)}\n")
+    names = names_in_front(found.frames)
+    scopes = found.frames[len(names) :]
+    if found.part.lacking and not scopes:
+        lacking = relation_of(f"{asking.value(found.part.lacking, names)}\n")
         if lacking and lacking.tuples:
             return f" for {shortened(literal(lacking.heading, lacking.tuples[0]), 100)}"
-    if not found.frames or not isinstance(found.frames[0], Scope):
+    if not scopes or not isinstance(scopes[0], Scope):
         return ""
-    value = asking.value(f"({found.frames[0].tuples})")
+    value = asking.value(f"({scopes[0].tuples})", names)
     relation = relation_of(f"{value}\n")
     tuples = [literal(relation.heading, one) for one in relation.tuples] if relation else []
     size = max(BLOCK, 1)
     while tuples:
         blocks = [tuples[at : at + size] for at in range(0, len(tuples), size)]
-        asked = [(found.part.asked(), (scope_of(one), *found.frames[1:])) for one in blocks]
+        asked = [(found.part.asked(), (*names, scope_of(one), *scopes[1:])) for one in blocks]
         told = asking.refused(asked)
         tuples = next((one for one, is_refused in zip(blocks, told) if is_refused), [])
         if size == 1:
@@ -289,22 +312,22 @@ def operands_of(part):
 def values(asking, operands, cause):
     """The values of operands, if no tuple is in scope: of a relation how many tuples it has."""
     known = []
-    outside = [one for one, frames in operands if not frames]
+    outside = [one for one in operands if len(names_in_front(one[1])) == len(one[1])]
     if cause in OF_TUPLES and len(outside) == 2:
         return tuples_of(asking, outside, *OF_TUPLES[cause])
-    for one in outside:
+    for one, names in outside:
         text = asking.text[one.begins : one.ends]
         if cause == NOT_ONE_TUPLE:
-            known.append(f"{asking.value(f'COUNT({text})')} tuples")
-        elif not (value := asking.value(text)).startswith(("RELATION", "REFUSED")):
+            known.append(f"{asking.value(f'COUNT({text})', names)} tuples")
+        elif not (value := asking.value(text, names)).startswith(("RELATION", "REFUSED")):
             known.append(value)
     return known
 
 
 def tuples_of(asking, operands, meant, says):
     """The first of the tuples that are meant by an expression of two operands."""
-    texts = [asking.text[one.begins : one.ends] for one in operands]
-    relation = relation_of(f"{asking.value(meant.format(*texts))}\n")
+    texts = [asking.text[one.begins : one.ends] for one, _ in operands]
+    relation = relation_of(f"{asking.value(meant.format(*texts), operands[0][1])}\n")
     if not relation or not relation.tuples:
         return []
     says = says.format(*map(shortened, texts))

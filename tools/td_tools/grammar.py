@@ -18,8 +18,8 @@ START, END = ("statement",), "the end"
 SHIFT, REDUCE = range(2)
 # Lines that only go on to another one where no operator, and no sign, stands there.
 LEVELS = {
-    *("expression", "disjunction", "conjunction", "negation", "comparison", "relational", "sum"),
-    *("product", "factor", "prefixed", "primary", "constructor"),
+    *("expression", "restriction", "disjunction", "conjunction", "negation", "comparison"),
+    *("relational", "sum", "product", "factor", "prefixed", "primary", "constructor"),
 }
 
 # A state of the automaton with the tree of the symbol that led to it, and what is below.

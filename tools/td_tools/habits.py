@@ -18,6 +18,8 @@ NAME = r"[A-Za-z_][\w#]*"
 NAMES = rf"{NAME}(?: , {NAME})*"
 WHERE = r"(?: (?P<where>WHERE .+))?"
 VALUE = r"(?:'(?:[^']|'')*'|- [0-9]+|[0-9]+|TRUE|FALSE)"
+# An expression behind which AS stands, with the place in it.
+ITEM = r"((?:(?!AS )[^:\0])*)\0((?:(?!AS )[^:\0])*)"
 ROW = re.compile(rf"\( ({VALUE}(?: , {VALUE})*) \)")
 COLUMN = re.compile(rf"({NAME}) ({NAME})((?: \( [0-9]+ \))?(?: {NAME})*)")
 TYPES = {"INT": "INTEGER", "NUM": "INTEGER", "BOOL": "BOOLEAN"}
@@ -78,6 +80,7 @@ STATEMENTS = [
     (rf"DROP (?:TABLE|VIEW|RELATION) ({NAME})", r"DROP VAR \1"),
     (r"(?:OUTPUT|PRINT|SHOW) (.+)", r"WRITE \1"),
     (rf"({NAME}) = (.+)", r"\1 := \2"),
+    (r"(WITH \( .+ \) : .+)", r"WRITE \1"),
     (rf"(?!SELECT)({NAME}(?: {{ {NAMES} }})?(?: WHERE .+)?)", r"WRITE \1"),
 ]
 
@@ -103,7 +106,10 @@ FORMS = [
     (r"\0SEMIJOIN\b", "MATCHING"),
     (r"\0SEMIMINUS\b", "NOT MATCHING"),
     (r"\0(?:EXCEPT|DIFFERENCE)\b", "MINUS"),
-    (r"\0WITH\b", "VAR V VIRTUAL (..), which gives an expression a name"),
+    (rf"WITH \( {ITEM}AS ({NAME}) \) : (.+)", r"WITH (\3 := \1\2) : \4"),
+    (rf"WITH {ITEM}AS ({NAME}) : (.+)", r"WITH (\3 := \1\2) : \4"),
+    (r"\0WITH \(", "(WITH (..) : ..)"),
+    (r"\0WITH\b", "WRITE WITH (A := ..) : .."),
     (r"\bCASE \0WHEN\b", "IF .. THEN .. ELSE .. END IF"),
     (r"\0AND \(", "IS_EMPTY(R WHERE NOT (..))"),
     (r"\0OR \(", "NOT IS_EMPTY(R WHERE ..)"),

@@ -29,15 +29,23 @@ class Scope:
     """An operand for each of whose tuples an expression is evaluated.
 
     It has no text where it is a type, whose components are the names; and its attributes are None
-    where they are not known.
+    where they are not known. An item of WITH is the relation of one tuple, whose attribute is its
+    name.
     """
 
     text: str | None
     attributes: frozenset[str] | None
     is_aggregate: bool = False
+    item: Operand | None = None
+
+    @property
+    def kind(self):
+        return "name" if self.item else "attribute"
 
     @property
     def label(self):
+        if self.item:
+            return "WITH"
         text = visible(" ".join(self.text.split())) if self.text else "the type"
         return text if len(text) <= LONGEST_LABEL else text[: LONGEST_LABEL - 2] + ".."
 
@@ -69,7 +77,22 @@ class Linter:
         return tuple(scope.text for scope in self.scopes)
 
     def operand(self, part):
-        return Operand(self.text, part, self.around(), self.schema)
+        return Operand(self.text, part, self.around(), self.schema, self.items())
+
+    def items(self):
+        """The items of WITH by their names, where no attribute hides these."""
+        found = {}
+        for scope in self.scopes:
+            hidden = scope.attributes if scope.attributes is not None else {*found}
+            found = {name: one for name, one in found.items() if name not in hidden}
+            found |= dict.fromkeys(hidden, scope.item) if scope.item else {}
+        return found
+
+    def scope_of_item(self, part, token):
+        """The scope of an item of WITH for what is behind it."""
+        name, operand = self.text[token.begins : token.ends], self.operand(part)
+        text = f"RELATION {{TUPLE {{{name} {operand.source}}}}}"
+        return Scope(text, frozenset({name}), item=operand)
 
     def scope(self, part):
         """The scope of the tuples of a part's first operand."""
@@ -98,6 +121,8 @@ class Linter:
             self.visit_name(part)
         elif part.kind in COMPARISONS and self.is_of_itself(part):
             self.visit_of_itself(part)
+        elif part.kind == "WITH":
+            self.visit_with(part)
         else:
             self.visit_operands(part)
 
@@ -111,6 +136,16 @@ class Linter:
                 self.visit_scoped(part, inner)
             else:
                 self.visit_all(inner)
+
+    def visit_with(self, part):
+        """Looks through the items of WITH and its result, each behind the items before it."""
+        *items, result = [one for one, _ in part.operands]
+        for one, token in zip(items, part.added):
+            self.visit(one)
+            self.enter(self.scope_of_item(one, token))
+        self.visit(result)
+        for _ in items:
+            self.leave()
 
     def visit_scoped(self, part, inner):
         """Looks through what is evaluated for each tuple of a part's first operand. That is the
@@ -126,10 +161,16 @@ class Linter:
     def visit_within(self, scope, several):
         """Looks through what is evaluated for each tuple. It gives whether an attribute of the
         operand is named, and whether one of it is hidden."""
+        self.enter(scope)
+        self.visit_all(several)
+        return self.leave()
+
+    def enter(self, scope):
         self.scopes.append(scope)
         self.named.append(scope.attributes is None)
         self.hidden.append(set())
-        self.visit_all(several)
+
+    def leave(self):
         self.scopes.pop()
         return self.named.pop(), self.hidden.pop()
 
@@ -156,13 +197,15 @@ class Linter:
             return
         self.named[depth] = True
         scope = self.scopes[depth]
-        if scope.is_aggregate or not hidden:
+        # WITH may give a name of WITH anew.
+        is_anew = scope.item and hidden and self.scopes[hidden[0]].item
+        if scope.is_aggregate or is_anew or not hidden:
             return
         outer = hidden[0]
         if (name, scope) not in self.hidden[outer]:
             self.hidden[outer].add((name, scope))
             other = self.scopes[outer].label
-            says = f"{name} is the attribute of {scope.label} here, and hides that of {other}"
+            says = f"{name} is the {scope.kind} of {scope.label} here, and hides that of {other}"
             self.warn(part, f"{says}{OFTEN}that one, with {name} of the inner one renamed")
 
     def is_of_itself(self, part):

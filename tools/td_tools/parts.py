@@ -1,7 +1,8 @@
 """The parts of a statement, each with the question by which td is asked for it alone.
 
 A part is asked where it stands: what names attributes of a tuple is asked within an EXTEND of the
-operand whose tuples they are, and the branch of an IF under its condition.
+operand whose tuples they are, the branch of an IF under its condition, and what names an item of
+WITH behind that item.
 """
 import os
 from dataclasses import dataclass, field
@@ -54,8 +55,41 @@ class Branch:
         return text
 
 
+@dataclass(frozen=True)
+class Naming:
+    """That a part may name the items of WITH before it."""
+
+    # The name of each item and its expression.
+    items: tuple
+
+    @property
+    def names(self):
+        return [name for name, _ in self.items]
+
+    @property
+    def last(self):
+        """The relation of the one tuple that the last item stands for."""
+        name, text = self.items[-1]
+        return f"RELATION {{TUPLE {{{name} {text}}}}}"
+
+    @property
+    def settings(self):
+        return ", ".join(f"{name} := {text}" for name, text in self.items)
+
+    def truth(self, question, _):
+        return self.typed(question)
+
+    def typed(self, text):
+        """An expression that has the type, and the value, of the text."""
+        return f"(WITH ({self.settings}) : {text})"
+
+
 def scope(operand, tuples=None):
     return Scope(operand, tuples or operand)
+
+
+def naming(items):
+    return Naming(tuple(items)) if items else None
 
 
 def has_value(text):
@@ -84,7 +118,8 @@ class Part:
     is_expression: bool = True
     # A part that is no operand, and whose type tells.
     beside: object = None
-    # Tokens of the names that it adds to its first operand's, or puts in their place.
+    # Tokens of the names that it adds to its first operand's, or puts in their place; of WITH those
+    # of its items.
     added: list = field(default_factory=list)
     replaces: bool = False
     # The tuples for which an aggregate has nothing to go over, as an expression.
@@ -146,6 +181,8 @@ class Parts:
         parts = node.parts
         if len(parts) == 1:
             return self.expression(parts[0])
+        if getattr(parts[0], "kind", "") == "WITH":
+            return self.binding(node, parts)
         if node.name in LEVELS and node.name != "primary":
             return self.folded(parts)
         if node.name in ("relation", "tuple", "extend", "summarize", "choice", "call"):
@@ -153,6 +190,19 @@ class Parts:
         # What is left has its operands between signs: (e), T(e, ..), THE_C(e), -5.
         operands = [(self.expression(one), None) for one in operands_in(parts)]
         return self.of_node(node, SIGNED.get(node.name, ""), operands)
+
+    def binding(self, node, parts):
+        """WITH (A := e, ..) : x, whose items are in scope in those behind them and in x."""
+        items, operands = [], []
+        settings = [one.parts for one in nodes(parts[2], "setting")]
+        for name, _, source in settings:
+            one = self.expression(source)
+            operands.append((one, naming(items)))
+            items.append((self.text[name.begins : name.ends], self.text_of(one)))
+        operands.append((self.expression(parts[5]), naming(items)))
+        part = self.of_node(node, "WITH", operands)
+        part.added = [self.moved(name) for name, *_ in settings]
+        return part
 
     def folded(self, parts):
         """Operands with operators between, before or behind: grouped from the left."""

@@ -17,7 +17,7 @@ CUT = ".."
 # What is told in place of the tokens with which it begins.
 GROUPS = {
     "a statement": ("body",),
-    "an expression": ("expression", "relational", "factor"),
+    "an expression": ("expression", "disjunction", "relational", "factor"),
     "a type": ("type",),
 }
 OPERATORS = {

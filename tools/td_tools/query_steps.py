@@ -3,6 +3,7 @@
 A part that names attributes of the tuples of an operand is asked for all of them at once, as a new
 attribute of that operand.
 """
+import itertools
 from dataclasses import dataclass, field
 
 from .answers import decoded, encoded
@@ -10,7 +11,7 @@ from .definitions import heading_of
 from .faults import type_in
 from .grammar import Node, Stop, parsed
 from .lexemes import tokens
-from .parts import FRESH, LITERALS, Branch, Element, Scope, nodes
+from .parts import FRESH, LITERALS, Branch, Element, Naming, Scope, nodes
 from .statements import Reader
 
 OK, TRUE, REFUSED = b"OK\n", b"TRUE\n", b"REFUSED "
@@ -36,6 +37,8 @@ class Step:
     # The operands for whose tuples the part has a value, the outermost first, and its attribute.
     operands: list[str] = field(default_factory=list)
     name: str = ""
+    # The items of each WITH around it, as they stand there, that it needs.
+    items: list[str] = field(default_factory=list)
 
 
 def spelled(text, frames, name):
@@ -44,6 +47,8 @@ def spelled(text, frames, name):
     for frame in reversed(frames):
         if isinstance(frame, Branch):
             conditions.insert(0, frame.holds)
+        elif isinstance(frame, Naming):
+            text, conditions = frame.typed(text), [*map(frame.typed, conditions)]
         else:
             text = f"EXTEND {restricted(frame.tuples, conditions)} ADD (({text}) AS {name})"
             conditions = []
@@ -66,12 +71,40 @@ def distinct(steps):
     return [step for at, step in enumerate(steps) if step not in steps[:at]]
 
 
+def front(frames):
+    """The frames in front of those of all operands."""
+    return [*itertools.takewhile(lambda one: not isinstance(one, Scope), frames)]
+
+
+def names_in(text):
+    return {text[one.begins : one.ends] for one in tokens(text) if one.kind == "name"}
+
+
+def with_needed_items(text, frames):
+    """The frames without the items of a WITH of which the text needs none."""
+    names, kept = names_in(text), []
+    for frame in reversed(frames):
+        if isinstance(frame, Scope):
+            names |= names_in(frame.tuples)
+        elif isinstance(frame, Branch):
+            names |= names_in(frame.condition)
+        elif names & {*frame.names}:
+            names |= names_in(frame.settings)
+        else:
+            continue
+        kept.insert(0, frame)
+    return kept
+
+
 def number_of_tuples(frames):
     """The expression of how many tuples all the innermost operands have."""
     text, conditions = None, []
     for frame in reversed(frames):
         if isinstance(frame, Branch):
             conditions.insert(0, frame.holds)
+            continue
+        if isinstance(frame, Naming):
+            text, conditions = text and frame.typed(text), [*map(frame.typed, conditions)]
             continue
         operand = restricted(frame.tuples, conditions)
         text = f"COUNT({operand})" if text is None else f"SUM({operand}, {text})"
@@ -114,7 +147,7 @@ class Walk:
             return None
         said = spelled(f"({operand}) WHERE FALSE", before, FRESH)
         answer = self.written(f"EXTEND TABLE_DUM ADD (({said}) AS {FRESH})").decode()
-        depth = 1 + len(self.scopes(before)) + bool(before and isinstance(before[0], Branch))
+        depth = 1 + len(self.scopes(before)) + any(isinstance(one, Branch) for one in front(before))
         return {name for name, _ in heading_of(type_in(answer, depth) or "")}
 
     # ---- frames
@@ -128,8 +161,9 @@ class Walk:
         """The frames without those of operands of which the text names no attribute."""
         if not frames:
             return []
-        names = {text[one.begins : one.ends] for one in tokens(text) if one.kind == "name"}
-        kept = [*frames]
+        kept = with_needed_items(text, frames)
+        items = (one.settings for one in kept if isinstance(one, Naming))
+        names = names_in(text).union(*map(names_in, items))
         for scope in self.scopes(frames):
             at = next(place for place, one in enumerate(kept) if one is scope[-1])
             fewer = kept[:at] + kept[at + 1 :]
@@ -142,11 +176,13 @@ class Walk:
 
     def taken(self, frames):
         """The frames without the conditions in front, or None where one of these does not hold."""
-        while frames and isinstance(frames[0], Branch):
-            if self.written(frames[0].holds) != TRUE:
+        names, in_front = [], front(frames)
+        for frame in in_front:
+            if isinstance(frame, Naming):
+                names.append(frame)
+            elif self.written(spelled(frame.holds, names, FRESH)) != TRUE:
                 return None
-            frames = frames[1:]
-        return frames
+        return [*names, *frames[len(in_front) :]]
 
     # ---- steps
 
@@ -199,10 +235,11 @@ class Walk:
         while name in taken:
             name += "_"
         operands = [scope[-1].tuples for scope in scopes]
+        items = [one.settings for one in frames if isinstance(one, Naming)]
         if len(scopes) > 1 and self.is_too_much(frames):
-            return Step(text, b"", operands=operands, name=name)
+            return Step(text, b"", operands=operands, name=name, items=items)
         answer = self.written(spelled(text, frames, name))
-        return Step(text, answer, operands=operands, name=name if scopes else "")
+        return Step(text, answer, operands=operands, name=name if scopes else "", items=items)
 
     def is_too_much(self, frames):
         number = self.written(number_of_tuples(frames)).strip()

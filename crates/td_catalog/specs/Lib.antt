@@ -6,3 +6,4 @@ pub mod TypedDatabaseLaws
 pub mod Mentioned
 pub mod NamedRelvars
 pub mod code
+pub mod WrittenDefinitions

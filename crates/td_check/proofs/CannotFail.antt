@@ -1,5 +1,5 @@
 -- Whether an expression cannot fail, by its nodes and by the relvars that it mentions.
-use Rattle.std.proofs.Common.{◌≡◌, ◌∙◌, ◌∷◌, ◌++◌, ◌&&◌, ◌||◌, ℕ, Bool, true, false, List, [], Option, Some, None, ◌⊎◌, inl, inr, ap, length, refl, sym}
+use Rattle.std.proofs.Common.{◌≡◌, ◌∙◌, ◌∷◌, ◌++◌, ◌&&◌, ◌||◌, ℕ, Bool, true, false, List, [], Option, Some, None, ◌⊎◌, inl, inr, ap, length, refl, subst, sym}
 use Rattle.std.proofs.lemmas.List.{append-nil}
 use Rattle.std.proofs.lemmas.List.Folds.{list_all-append}
 use Rattle.std.proofs.Math.Bool.{and_assoc}
@@ -7,9 +7,9 @@ use Rattle.std.proofs.Math.Dec.{eqb-suc-zero}
 use Rattle.std.specs.Bool.{◌==◌}
 use Rattle.std.specs.Global.{Box, Vec}
 use Rattle.std.specs.Prelude.{if◌then◌else◌, is_some}
-use Rattle.td_check.specs.CannotFail.{all_cannot_fail, all_unfailing, cannot_fail, cannot_fail_of, is_no_virtual, items_cannot_fail, measure_cannot_fail, name_cannot_fail, unfailing, operator_cannot_fail, parts_unfailing, parts_cannot_fail, prefix_cannot_fail, relvar_cannot_fail, relvars_cannot_fail, selector_cannot_fail}
+use Rattle.td_check.specs.CannotFail.{all_cannot_fail, all_unfailing, cannot_fail, cannot_fail_of, is_no_virtual, items_cannot_fail, measure_cannot_fail, name_cannot_fail, none_fails_where_bound, unfailing, operator_cannot_fail, parts_unfailing, parts_cannot_fail, prefix_cannot_fail, relvar_cannot_fail, relvars_cannot_fail, selector_cannot_fail}
 use Rattle.td_check.specs.code.CheckViews.{Names}
-use Rattle.td_check.specs.Mentions.{in_tuples, mentioned_by_name, relvars_in, relvars_in_all, relvars_in_named, types_in}
+use Rattle.td_check.specs.Mentions.{behind_item, in_tuples, mentioned_by_name, relvars_in, relvars_in_all, relvars_in_named, relvars_where_bound, types_in}
 use Rattle.td_check.specs.Scopes.{KnownRelvar, Scope, innermost, relvar_in}
 use Rattle.td_check.specs.StaticTypes.{type_of}
 use Rattle.td_tree.specs.declared.expression.Expr.{Expr}
@@ -20,7 +20,7 @@ use Rattle.td_tree.specs.declared.expression.Summary.TheVariants as s
 use Rattle.td_tree.specs.declared.type_tree.AttributeTree.{AttributeTree}
 use Rattle.td_tree.specs.Outcomes.{Outcome, Valued, Refused, with_value}
 use Rattle.td_tree.specs.code.TreeViews.{named_view, summaries_view, tree_view, trees_view}
-use Rattle.td_tree.specs.Trees.{Tree, literal, name, parentheses, prefix, extract, restriction, binary, compare, postfix, select, component, measure, aggregate, relation, headed_relation, tuple, extend, extend_setting, summarize_per, summarize_by, choice, Trees, none, more, NamedTrees, none_named, more_named, no_summaries, counted, summed}
+use Rattle.td_tree.specs.Trees.{Tree, literal, name, parentheses, prefix, extract, restriction, binary, compare, postfix, select, component, measure, aggregate, relation, headed_relation, tuple, extend, extend_setting, summarize_per, summarize_by, choice, binding, Trees, none, more, NamedTrees, none_named, more_named, no_summaries, counted, summed}
 use Rattle.td_tree.proofs.code_lemmas.Rows.{extend_is, extend_setting_is, headed_relation_is, relation_is}
 use Rattle.td_types.proofs.OutcomeLaws.{valued_is}
 use Rattle.td_types.specs.TypeLists.{DeclaredType}
@@ -99,6 +99,12 @@ in_hand P s (Valued (types.tuple xs)) p = p
 in_hand P s (Valued (types.relation xs)) p = p
 in_hand P s (Refused cs) p = p
 
+-- and so is what is known behind an item of WITH
+behind : (P : List DeclaredType → List KnownRelvar → Type 0) (n : List ℕ) (s : Scope) (o : Outcome Type')
+    → P (behind_item n o s).types (behind_item n o s).relvars → P s.types s.relvars
+behind P n s (Valued t) p = p
+behind P n s (Refused cs) p = p
+
 of_name : (s : Scope) (n : List ℕ) → IsOfParts s.relvars (name_cannot_fail s n) true (mentioned_by_name s n)
 of_name s n = by_attribute (innermost n s.entered)
   where
@@ -153,6 +159,21 @@ mutual
   of_parts (choice condition consequent alternative) s =
       of_both s.relvars _ _ _ _ _ _ (of_parts condition s)
       (of_both s.relvars _ _ _ _ _ _ (of_parts consequent s) (of_parts alternative s))
+  of_parts (binding items result) s =
+      bound_of_parts items s (λ t. cannot_fail t result) (λ ts. unfailing ts result) (λ t. relvars_in t result) (of_parts result)
+
+  -- of WITH's items, and of what stands behind them
+  bound_of_parts : (items : NamedTrees) (s : Scope) (whole : Scope → Bool) (nodes : List DeclaredType → Bool) (names : Scope → List (List ℕ))
+      → ((t : Scope) → IsOfParts t.relvars (whole t) (nodes t.types) (names t))
+      → IsOfParts s.relvars (none_fails_where_bound s items whole) (parts_unfailing s.types items && nodes s.types) (relvars_where_bound s items names)
+  bound_of_parts none_named s whole nodes names p = p s
+  bound_of_parts (more_named n e es) s whole nodes names p =
+      let t = behind_item n (type_of s e) s in
+      subst (λ b. IsOfParts s.relvars (none_fails_where_bound s (more_named n e es) whole) b (relvars_where_bound s (more_named n e es) names))
+      (sym (and_assoc (unfailing s.types e) (parts_unfailing s.types es) (nodes s.types)))
+      (of_both s.relvars _ _ _ _ _ _ (of_parts e s)
+      (behind (λ ts rs. IsOfParts rs (none_fails_where_bound t es whole) (parts_unfailing ts es && nodes ts) (relvars_where_bound t es names))
+      n s (type_of s e) (bound_of_parts es t whole nodes names p)))
 
   all_of_parts : (es : Trees) (s : Scope) → IsOfParts s.relvars (all_cannot_fail s es) (all_unfailing s.types es) (relvars_in_all s es)
   all_of_parts none s = refl

@@ -1,9 +1,9 @@
 -- What one outcome has, another has too, and so have outcomes made of such, with the names that are mentioned for them.
 use Rattle.std.proofs.Common.{◌≡◌, ◌∙◌, ◌++◌, ℕ, List, ap, subst, sym}
 use Rattle.std.specs.List.{Contains}
-use Rattle.td_check.specs.Mentions.{in_tuples}
+use Rattle.td_check.specs.Mentions.{behind_item, in_tuples}
 use Rattle.td_check.specs.OperatorTypes.{over_relation}
-use Rattle.td_check.specs.Scopes.{Scope, entered_with}
+use Rattle.td_check.specs.Scopes.{Scope, bound_to, entered_with}
 use Rattle.td_tree.specs.Outcomes.{Outcome, Valued, with_both, with_value}
 use Rattle.td_types.specs.Types.{Attrs, Heading, Type', boolean, char, integer, relation, tuple, unpack, user}
 use Rattle.td_types.proofs.OutcomeLaws.{value_of_with, values_of_both}
@@ -134,3 +134,27 @@ module _ (first second : Scope) (G : Type' → Type 0) (R : List ℕ → Type 0)
             let h = c.carried (relation xs) e in
             let k = (inside xs h.1 (subst (λ u. Each R (names_within first u)) e all)).carried y is in
             (ap (λ u. with_value u (λ s. over_relation s (g s))) h.0 ∙ k.0, k.1, same_within o p l m xs e h.0 h.2 k.2)
+
+-- ---- behind an item of WITH
+
+module _ (first second : Scope) (G : Type' → Type 0) (R : List ℕ → Type 0) (mentioned : Scope → Names) (n : List ℕ) where
+  same_behind : (o p : Outcome Type') (l m : Names) (t : Type') → o ≡ Valued t → p ≡ Valued t → m ≡ l
+      → mentioned (bound_to n t second) ≡ mentioned (bound_to n t first)
+      → m ++ mentioned (behind_item n p second) ≡ l ++ mentioned (behind_item n o first)
+  same_behind o p l m t e f same behind =
+      ap (λ ns. ns ++ mentioned (behind_item n p second)) same ∙ ap (λ u. l ++ mentioned (behind_item n u second)) f ∙ ap (λ ns. l ++ ns) behind
+      ∙ sym (ap (λ u. l ++ mentioned (behind_item n u first)) e)
+
+  module _ {A : Type 0} (Q : A → Type 0) (f g : Type' → Outcome A) where
+    pub carries_behind : (o p : Outcome Type') (l m : Names) → Carries G o p l m → Each R (mentioned (behind_item n o first))
+        → ((t : Type') → G t → Each R (mentioned (bound_to n t first))
+        → Carries Q (f t) (g t) (mentioned (bound_to n t first)) (mentioned (bound_to n t second)))
+        → Carries Q (with_value o f) (with_value p g) (l ++ mentioned (behind_item n o first)) (m ++ mentioned (behind_item n p second))
+    carries_behind o p l m c all inside =
+        record {
+          carried = λ y e.
+              let is = value_of_with o f y e in
+              let h = c.carried is.0 is.1 in
+              let k = (inside is.0 h.1 (subst (λ u. Each R (mentioned (behind_item n u first))) is.1 all)).carried y is.2 in
+              (ap (λ u. with_value u g) h.0 ∙ k.0, k.1, same_behind o p l m is.0 is.1 h.0 h.2 k.2);
+        }

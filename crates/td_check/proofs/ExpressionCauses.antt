@@ -1,9 +1,11 @@
 -- Types and expressions are refused by their own causes alone: by induction on the trees.
-use Rattle.std.proofs.Common.{◌∷◌, Bool, ℕ, List, [], map, Option, Some, None}
+use Rattle.std.proofs.Common.{◌∷◌, Bool, true, false, ℕ, List, [], map, Option, Some, None}
+use Rattle.std.specs.Prelude.{if◌then◌else◌}
+use Rattle.td_check.specs.OperatorTypes as rules
 use Rattle.td_check.specs.OperatorTypes.{Item, aggregate_item, aggregate_type, attribute_type, closure_type, comparison_type, component_type, composed_heading, count_item, element_type, equality_type, extended_by, extension_type, extracted_type, headed_type, item_type, known_or, listed_type, measure_type, membership_type, mismatch, named_part, operator_type, order_type, over_relation, per_heading, postfix_type, prefix_type, restriction_type, selector_type, set_heading, setting_type, summary_type, tuple_type}
-use Rattle.td_check.specs.Scopes.{Scope, entered_with, innermost, known_relvar}
+use Rattle.td_check.specs.Scopes.{Scope, bound_to, entered_with, innermost, known_relvar}
 use Rattle.td_check.specs.StaticCauses.{IsRefusedOnlyBy}
-use Rattle.td_check.specs.StaticTypes.{items_of, name_type, named_types, both_types, type_of, types_of, with_items}
+use Rattle.td_check.specs.StaticTypes.{items_of, name_type, named_types, both_types, type_of, type_where_bound, types_of, with_items}
 use Rattle.td_check.proofs.Refusals.{by_both, by_each, by_known, by_one, by_relation, by_test, by_tuple, by_value}
 use Rattle.td_tree.specs.declared.cause.Cause.{Cause}
 use Rattle.td_tree.specs.declared.cause.Cause.TheVariants as causes
@@ -18,9 +20,9 @@ use Rattle.td_tree.specs.declared.operator.Operator.TheVariants as operators
 use Rattle.td_tree.specs.declared.operator.Prefix.{Prefix}
 use Rattle.td_tree.specs.declared.operator.Prefix.TheVariants as prefixes
 use Rattle.td_tree.specs.Outcomes.{Outcome, Valued, gathered, value_if, with_value}
-use Rattle.td_tree.specs.Trees.{AttributeTrees, Attributes, only, all_but, Postfix, project, rename, group, ungroup, wrap, unwrap, Tree, literal, name, parentheses, prefix, extract, restriction, binary, compare, postfix, select, component, measure, aggregate, relation, headed_relation, tuple, extend, extend_setting, summarize_per, summarize_by, choice, Trees, none, more, NamedTrees, none_named, more_named, Summaries, no_summaries, counted, summed, TypeTree, no_attributes, attribute}
+use Rattle.td_tree.specs.Trees.{AttributeTrees, Attributes, only, all_but, Postfix, project, rename, group, ungroup, wrap, unwrap, Tree, literal, name, parentheses, prefix, extract, restriction, binary, compare, postfix, select, component, measure, aggregate, relation, headed_relation, tuple, extend, extend_setting, summarize_per, summarize_by, choice, binding, Trees, none, more, NamedTrees, none_named, more_named, Summaries, no_summaries, counted, summed, TypeTree, no_attributes, attribute}
 use Rattle.td_tree.specs.Trees as trees
-use Rattle.td_types.specs.Headings.{agree, common_heading, common_part, has_projection, heading_union, made_heading, outside, projected_heading, projection}
+use Rattle.td_types.specs.Headings.{agree, common_heading, common_part, has_name, has_projection, heading_union, made_heading, outside, projected_heading, projection}
 use Rattle.td_types.specs.TypeLists.{DeclaredType, attributes_meant, declared_at, heading_meant, is_declared, type_meant}
 use Rattle.td_types.specs.Types.{Attribute, Heading, Type', pack, type_at}
 use Rattle.td_types.specs.Types as types
@@ -261,6 +263,10 @@ module _ (P : Cause → Type 0) (unknown : P causes.NameUnknown) (mismatched : P
   items_among (types.tuple xs) f p = tt
   items_among (types.relation xs) f p = by_value P (f (types.unpack xs)) _ (p (types.unpack xs)) (λ items. tt)
 
+  unless_twice : (twice : Bool) (o : Outcome Type') → IsRefusedOnlyBy P o → IsRefusedOnlyBy P (if twice then rules.misfit else o)
+  unless_twice true o p = by_one P causes.Heading misfit
+  unless_twice false o p = p
+
   -- ---- every expression
 
   mutual
@@ -314,6 +320,15 @@ module _ (P : Cause → Type 0) (unknown : P causes.NameUnknown) (mismatched : P
         by_both P (type_of s condition) (both_types (type_of s consequent) (type_of s alternative)) _ (expression_refused condition s)
         (by_both P (type_of s consequent) (type_of s alternative) _ (expression_refused consequent s) (expression_refused alternative s) (λ t u. tt))
         (λ t both. typed _ _)
+    expression_refused (binding items result) s = bound_refused items [] s (λ t. type_of t result) (expression_refused result)
+
+    -- behind WITH's items
+    bound_refused : (items : NamedTrees) (before : List (List ℕ)) (s : Scope) (inside : Scope → Outcome Type') → ((t : Scope) → IsRefusedOnlyBy P (inside t))
+        → IsRefusedOnlyBy P (type_where_bound before s items inside)
+    bound_refused none_named before s inside p = p s
+    bound_refused (more_named n value rest) before s inside p =
+        by_value P (type_of s value) _ (expression_refused value s)
+        (λ t. unless_twice (has_name n before) _ (bound_refused rest (n ∷ before) (bound_to n t s) inside p))
 
     expressions_refused : (es : Trees) (s : Scope) → IsRefusedOnlyBy P (types_of s es)
     expressions_refused none s = tt

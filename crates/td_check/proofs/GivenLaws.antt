@@ -3,20 +3,21 @@ use Rattle.std.proofs.Common.{◌≡◌, ◌∷◌, ℕ, List, [], ◌⊎◌, in
 use Rattle.std.specs.List.{AllByRecursion, Contains}
 use Rattle.std.proofs.lemmas.List.Elements.{Contains-append_cases, Contains-append_left, Contains-append_right}
 use Rattle.td_check.specs.OperatorTypes.{Item, count_item, aggregate_item, aggregate_type, are_types_of, choice_type, comparison_type, component_type, extension_type, extracted_type, headed_type, known_or, listed_type, measure_type, mismatch, named_part, operator_type, per_heading, postfix_type, prefix_type, selector_type, setting_type, summary_type, tuple_type, restriction_type}
-use Rattle.td_check.specs.Scopes.{KnownRelvar, Scope, entered_with, innermost, known_relvar}
-use Rattle.td_check.specs.StaticLaws.{GiveNames, GivesNames, ItemsGiveNames, OperatorGivesNames, PartsGiveNames}
-use Rattle.td_check.specs.StaticTypes.{items_of, literal_type, name_type, named_types, both_types, type_of, types_of, with_items}
+use Rattle.td_check.specs.Scopes.{KnownRelvar, Scope, bound_to, entered_with, innermost, known_relvar}
+use Rattle.td_check.specs.StaticTypes.{items_of, literal_type, name_type, named_types, both_types, type_of, type_where_bound, types_of, with_items}
 use Rattle.td_tree.specs.declared.cause.Cause.TheVariants as causes
 use Rattle.td_tree.specs.declared.operator.Operator.{Operator}
 use Rattle.td_tree.specs.Names.{IsName}
 use Rattle.td_tree.specs.Outcomes.{Outcome, Valued, Refused, value_if, with_both, with_value}
-use Rattle.td_tree.specs.Trees.{Literal, number, text, truth, table_dee, table_dum, Postfix, project, rename, group, ungroup, wrap, unwrap, Tree, literal, name, parentheses, prefix, extract, restriction, binary, compare, postfix, select, component, measure, aggregate, relation, headed_relation, tuple, extend, extend_setting, summarize_per, summarize_by, choice, Trees, none, more, NamedTrees, none_named, more_named, Summaries, no_summaries, counted, summed}
+use Rattle.td_tree.specs.Trees.{Literal, number, text, truth, table_dee, table_dum, Postfix, project, rename, group, ungroup, wrap, unwrap, Tree, literal, name, parentheses, prefix, extract, restriction, binary, compare, postfix, select, component, measure, aggregate, relation, headed_relation, tuple, extend, extend_setting, summarize_per, summarize_by, choice, binding, Trees, none, more, NamedTrees, none_named, more_named, Summaries, no_summaries, counted, summed}
+use Rattle.td_types.specs.Headings.{has_name}
 use Rattle.td_types.specs.TypeLists.{DeclaredType, declared_at, heading_meant}
 use Rattle.td_types.specs.Types.{Attribute, Heading, Type', pack, type_at, unpack}
 use Rattle.td_types.specs.Types as types
 use Rattle.td_check.proofs.AgreementLaws.{one_is, only_one}
 use Rattle.td_check.proofs.KnownLaws.{Supplies}
-use Rattle.td_check.proofs.OperatorLaws.{Fits, Gives, IsClosed, ItemFits, NewNames, aggregate_gives, choice_gives, comparison_gives, extension_gives, extracted_gives, gives_both, gives_if, gives_known, gives_with, headed_gives, listed_gives, measure_gives, operator_gives, over_relation_gives, part_gives, per_gives, postfix_gives, prefix_gives, restricted_gives, setting_gives, summary_gives, tuple_gives, type_fits}
+use Rattle.td_check.proofs.OperatorLaws.{Fits, Gives, IsClosed, ItemFits, NewNames, aggregate_gives, choice_gives, comparison_gives, extension_gives, extracted_gives, gives_both, gives_if, gives_known, gives_unless, gives_with, headed_gives, listed_gives, measure_gives, operator_gives, over_relation_gives, part_gives, per_gives, postfix_gives, prefix_gives, restricted_gives, setting_gives, summary_gives, tuple_gives, type_fits}
+use Rattle.td_tree.specs.WrittenTrees.{GiveNames, GivesNames, ItemsGiveNames, OperatorGivesNames, PartsGiveNames}
 
 gives_value : {A : Type 0} (P : A → Type 0) (o : Outcome A) → ((x : A) → o ≡ Valued x → P x) → Gives P o
 gives_value P (Valued x) p = p x refl
@@ -204,6 +205,16 @@ module _ {G : Type' → Type 0} {H : Heading → Type 0} (c : IsClosed IsName G 
         (gives_both G G (λ both. G both.0 × G both.1) (type_of s consequent) (type_of s alternative) (λ t u. Valued (t, u))
         (gives consequent n.1 s a) (gives alternative n.2 s a) (λ t u g k. (g, k)))
         (λ t both _ k. choice_gives c t both.0 both.1 k.0)
+    gives (binding items result) n s a = bound_give items n.0 [] s a (λ t. type_of t result) (gives result n.1)
+
+    -- behind WITH's items
+    bound_give : (items : NamedTrees) → PartsGiveNames items → (before : List (List ℕ)) (s : Scope) → Supplies G H s → (inside : Scope → Outcome Type')
+        → ((t : Scope) → Supplies G H t → Gives G (inside t)) → Gives G (type_where_bound before s items inside)
+    bound_give none_named n before s a inside p = p s a
+    bound_give (more_named m e es) n before s a inside p =
+        gives_with G G (type_of s e) _ (gives e n.1 s a)
+        (λ t g. gives_unless G (has_name m before) _
+        (bound_give es n.2 (m ∷ before) (bound_to m t s) (supplies_entered s a ((m, t) ∷ []) (c.one_more [] (m, t) n.0 g c.nothing)) inside p))
 
     pub all_give : (es : Trees) → GiveNames es → (s : Scope) → Supplies G H s → Gives (AllByRecursion G) (types_of s es)
     all_give none n s a = tt

@@ -9,7 +9,6 @@ use Rattle.td_tree.specs.Names.{IsName}
 use Rattle.td_tree.specs.Outcomes.{Valued}
 use Rattle.td_tree.specs.Trees.{AttributeTrees}
 use Rattle.td_types.specs.Headings.{made_heading}
-use Rattle.td_types.specs.TypeListLaws.{HaveNames}
 use Rattle.td_types.specs.TypeLists.{AreKnown, DeclaredType, IsKnown, attributes_meant, declared_at, heading_meant}
 use Rattle.td_types.specs.Types.{Attribute, Attrs, Heading, IsHeading, IsType, Type', pack, same_name, type_at, unpack, user}
 use Rattle.td_types.proofs.DeclaredTypes.{AreKnown-with, IsKnown-earlier, declarable_at, stands_in}
@@ -18,6 +17,7 @@ use Rattle.td_types.proofs.Meanings.{known_attributes, known_heading, pack_unpac
 use Rattle.td_types.proofs.OutcomeLaws.{value_of_with}
 use Rattle.td_check.proofs.AgreementLaws.{one_is}
 use Rattle.td_check.proofs.OperatorLaws.{IsClosed}
+use Rattle.td_tree.specs.WrittenTrees.{HaveNames}
 
 -- a type whose user types are declared
 abbrev pub IsKnownType : List DeclaredType → Type' → Type 0

@@ -3,6 +3,7 @@ pub mod AgreementLaws
 pub mod BothAnswers
 pub mod CannotFail
 pub mod CarriedLaws
+pub mod CheckedBindings
 pub mod CheckedItems
 pub mod CheckedLists
 pub mod CheckedNames

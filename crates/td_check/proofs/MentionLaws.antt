@@ -1,21 +1,23 @@
 -- The type of an expression depends on the types and relvars alone that it mentions.
-use Rattle.std.proofs.Common.{◌≡◌, ◌∷◌, ◌++◌, ℕ, Bool, List, [], refl, subst}
-use Rattle.std.specs.Prelude.{IsTrue, ⊤}
+use Rattle.std.proofs.Common.{◌≡◌, ◌∷◌, ◌++◌, ℕ, Bool, true, false, List, [], refl, subst}
+use Rattle.std.specs.Prelude.{if◌then◌else◌, IsTrue, ⊤}
+use Rattle.std.proofs.lemmas.List.{append_assoc}
 use Rattle.std.specs.List.{AllByRecursion}
 use Rattle.std.proofs.lemmas.List.Elements.{Contains-append_left, Contains-append_right}
-use Rattle.td_check.specs.Mentions.{in_tuples, relvars_in, relvars_in_all, relvars_in_items, relvars_in_named, types_in, types_in_all, types_in_items, types_in_named, types_named_in}
-use Rattle.td_check.specs.OperatorTypes.{count_item, aggregate_item, aggregate_type, choice_type, comparison_type, component_type, extension_type, extracted_type, headed_type, listed_type, measure_type, named_part, operator_type, per_heading, postfix_type, prefix_type, selector_type, setting_type, summary_type, tuple_type, restriction_type}
-use Rattle.td_check.specs.Scopes.{Scope, entered_with}
+use Rattle.td_check.specs.Mentions.{in_tuples, relvars_in, relvars_in_all, relvars_in_items, relvars_in_named, relvars_where_bound, types_in, types_in_all, types_in_items, types_in_named, types_named_in}
+use Rattle.td_check.specs.OperatorTypes.{count_item, aggregate_item, aggregate_type, choice_type, comparison_type, component_type, extension_type, extracted_type, headed_type, listed_type, measure_type, misfit, named_part, operator_type, per_heading, postfix_type, prefix_type, selector_type, setting_type, summary_type, tuple_type, restriction_type}
+use Rattle.td_check.specs.Scopes.{Scope, bound_to, entered_with}
 use Rattle.td_check.specs.StaticLaws.{AgreeAt, AgreeOn, UsersAllIn, UsersIn}
-use Rattle.td_check.specs.StaticTypes.{items_of, literal_type, named_types, type_of, types_of}
+use Rattle.td_check.specs.StaticTypes.{items_of, literal_type, named_types, type_of, type_where_bound, types_of}
 use Rattle.td_tree.specs.declared.operator.Operator.{Operator}
-use Rattle.td_tree.specs.Outcomes.{Valued, with_both}
-use Rattle.td_tree.specs.Trees.{Literal, number, text, truth, table_dee, table_dum, Renaming, Postfix, project, rename, group, ungroup, wrap, unwrap, Tree, literal, name, parentheses, prefix, extract, restriction, binary, compare, postfix, select, component, measure, aggregate, relation, headed_relation, tuple, extend, extend_setting, summarize_per, summarize_by, choice, Trees, none, more, NamedTrees, none_named, more_named, Summaries, no_summaries, counted, summed}
+use Rattle.td_tree.specs.Outcomes.{Outcome, Valued, with_both}
+use Rattle.td_tree.specs.Trees.{Literal, number, text, truth, table_dee, table_dum, Renaming, Postfix, project, rename, group, ungroup, wrap, unwrap, Tree, literal, name, parentheses, prefix, extract, restriction, binary, compare, postfix, select, component, measure, aggregate, relation, headed_relation, tuple, extend, extend_setting, summarize_per, summarize_by, choice, binding, Trees, none, more, NamedTrees, none_named, more_named, Summaries, no_summaries, counted, summed}
+use Rattle.td_types.specs.Headings.{has_name}
 use Rattle.td_types.specs.Types.{Attribute, Attrs, Heading, Type', pack, unpack}
 use Rattle.td_types.specs.Types as types
 use Rattle.td_types.proofs.OutcomeLaws.{valued_is}
 use Rattle.td_check.proofs.AgreementLaws.{Mentioned, agree_entered, component_follows, heading_follows, name_carried, one_is, selector_follows}
-use Rattle.td_check.proofs.CarriedLaws.{Carries, Each, carries_after, carries_both, carries_with, carries_within, follows_itself}
+use Rattle.td_check.proofs.CarriedLaws.{Carries, Each, carries_after, carries_behind, carries_both, carries_with, carries_within, follows_itself}
 use Rattle.td_check.proofs.OperatorLaws.{Fits, IsClosed, ItemFits, NewNames, aggregate_gives, choice_gives, comparison_gives, extension_gives, extracted_gives, headed_gives, listed_gives, measure_gives, operator_gives, part_gives, per_gives, postfix_gives, prefix_gives, setting_gives, summary_gives, tuple_gives, restricted_gives}
 use Rattle.td_check.proofs.SummaryLaws.{Both, Items, items_carried, summary_by, summary_per}
 use Rattle.td_check.proofs.UserTypeLaws.{users_closed, users_unpacked}
@@ -121,6 +123,21 @@ module _ (among : List ℕ → Bool) where
         (λ xs u inside. carries_with G G _ _ (restriction_type (types.relation xs)) (restriction_type (types.relation xs)) _ _
         (r _ _ (within first second a xs u) inside)
         (λ t v. follows_itself G (restriction_type (types.relation xs) t) (restricted_gives closed (types.relation xs) t u)))
+
+  -- ---- behind WITH's items
+
+  unless_twice : (twice : Bool) (o p : Outcome Type') (l m : List (List ℕ)) → Carries G o p l m
+      → Carries G (if twice then misfit else o) (if twice then misfit else p) l m
+  unless_twice true o p l m c = record { carried = λ t e. absurd (cc) }
+  unless_twice false o p l m c = c
+
+  -- what is asked of what stands there: its outcome and its relvars, in two scopes
+  abbrev Inside : List (List ℕ) → (Scope → Outcome Type') → (Scope → List (List ℕ)) → Type 0
+  Inside names inside relvars =
+      (s t : Scope) → AgreeOn among s t → Mentioned among names → Known s t (relvars s) → Carries G (inside s) (inside t) (relvars s) (relvars t)
+
+  bound_agree : (first second : Scope) → AgreeOn among first second → (n : List ℕ) (t : Type') → G t → AgreeOn among (bound_to n t first) (bound_to n t second)
+  bound_agree first second a n t u = agree_entered among first second a ((n, t) ∷ []) (u, tt)
 
   -- ---- every expression
 
@@ -232,6 +249,25 @@ module _ (among : List ℕ → Bool) where
         (rest_known first second (relvars_in first consequent) (relvars_in first alternative) k_rest))
         (λ s t u v. follows_itself (λ both. G both.0 × G both.1) (Valued (s, t)) (u, v)))
         (λ c both u v. follows_itself G (choice_type c both.0 both.1) (choice_gives closed c both.0 both.1 v.0))
+    carried (binding items result) first second a m k =
+        bound_carried items [] first second a (types_in result) m (λ s. type_of s result) (λ s. relvars_in s result) k (carried result)
+
+    bound_carried : (items : NamedTrees) (before : List (List ℕ)) (first second : Scope) → AgreeOn among first second
+        → (names : List (List ℕ)) → Mentioned among (types_in_named items ++ names)
+        → (inside : Scope → Outcome Type') (relvars : Scope → List (List ℕ)) → Known first second (relvars_where_bound first items relvars)
+        → Inside names inside relvars
+        → Carries G (type_where_bound before first items inside) (type_where_bound before second items inside)
+        (relvars_where_bound first items relvars) (relvars_where_bound second items relvars)
+    bound_carried none_named before first second a names m inside relvars k there = there first second a m k
+    bound_carried (more_named n e es) before first second a names m inside relvars k there =
+        let m_all = subst (Mentioned among) (append_assoc (types_in e) (types_in_named es) names) m in
+        carries_behind first second G (AgreeAt among first second) (λ s. relvars_where_bound s es relvars) n G _ _
+        (type_of first e) (type_of second e) (relvars_in first e) (relvars_in second e)
+        (carried e first second a (first_of Passes (types_in e) (types_in_named es ++ names) m_all) (first_known first second (relvars_in first e) _ k))
+        (rest_known first second (relvars_in first e) _ k)
+        (λ t u known. unless_twice (has_name n before) _ _ _ _
+        (bound_carried es (n ∷ before) (bound_to n t first) (bound_to n t second) (bound_agree first second a n t u) names
+        (rest_of Passes (types_in e) (types_in_named es ++ names) m_all) inside relvars known there))
 
     pub all_carried : (es : Trees) (first second : Scope) → AgreeOn among first second → Mentioned among (types_in_all es)
         → Known first second (relvars_in_all first es)

@@ -3,11 +3,11 @@ use Rattle.std.proofs.Common.{◌≡◌, ◌∷◌, ◌++◌, ℕ, true, List, [
 use Rattle.std.specs.Prelude.{if◌then◌else◌, is_some}
 use Rattle.std.specs.List.{Contains}
 use Rattle.std.proofs.lemmas.List.Elements.{Contains-append_cases}
-use Rattle.td_check.specs.Mentions.{in_tuples, mentioned_by_name, relvars_in, relvars_in_all, relvars_in_named, relvars_in_items}
+use Rattle.td_check.specs.Mentions.{behind_item, in_tuples, mentioned_by_name, relvars_in, relvars_in_all, relvars_in_named, relvars_in_items, relvars_where_bound}
 use Rattle.td_check.specs.Scopes.{KnownRelvar, Scope, innermost, known_relvar}
 use Rattle.td_check.specs.StaticTypes.{type_of}
 use Rattle.td_tree.specs.Outcomes.{Outcome, Valued, Refused}
-use Rattle.td_tree.specs.Trees.{Tree, literal, name, parentheses, prefix, extract, restriction, binary, compare, postfix, select, component, measure, aggregate, relation, headed_relation, tuple, extend, extend_setting, summarize_per, summarize_by, choice, Trees, none, more, NamedTrees, none_named, more_named, Summaries, no_summaries, counted, summed}
+use Rattle.td_tree.specs.Trees.{Tree, literal, name, parentheses, prefix, extract, restriction, binary, compare, postfix, select, component, measure, aggregate, relation, headed_relation, tuple, extend, extend_setting, summarize_per, summarize_by, choice, binding, Trees, none, more, NamedTrees, none_named, more_named, Summaries, no_summaries, counted, summed}
 use Rattle.td_types.specs.Types.{Type'}
 use Rattle.td_types.specs.Types as types
 use Rattle.td_check.proofs.AgreementLaws.{only_one}
@@ -50,6 +50,11 @@ from_tuples s (Valued (types.user n)) ns k = k
 from_tuples s (Valued (types.tuple xs)) ns k = k
 from_tuples s (Valued (types.relation xs)) ns k = k
 from_tuples s (Refused cs) ns k = k
+
+-- nor behind an item of WITH
+from_item : (n : List ℕ) (s : Scope) (o : Outcome Type') (ns : List (List ℕ)) → Each (IsKnownIn (behind_item n o s)) ns → Each (IsKnownIn s) ns
+from_item n s (Valued t) ns k = k
+from_item n s (Refused cs) ns k = k
 
 -- what is asked of an operand
 abbrev Part : Tree → Type 0
@@ -97,6 +102,14 @@ mutual
   relvars_known (choice condition consequent alternative) s =
       each_both (IsKnownIn s) (relvars_in s condition) _ (relvars_known condition s)
       (both_known consequent alternative (relvars_known consequent) (relvars_known alternative) s)
+  relvars_known (binding items result) s = bound_known items s (λ t. relvars_in t result) (relvars_known result)
+
+  bound_known : (items : NamedTrees) (s : Scope) (inside : Scope → List (List ℕ)) → ((t : Scope) → Each (IsKnownIn t) (inside t))
+      → Each (IsKnownIn s) (relvars_where_bound s items inside)
+  bound_known none_named s inside k = k s
+  bound_known (more_named n e es) s inside k =
+      each_both (IsKnownIn s) (relvars_in s e) _ (relvars_known e s)
+      (from_item n s (type_of s e) _ (bound_known es (behind_item n (type_of s e) s) inside k))
 
   pub all_known : (es : Trees) (s : Scope) → Each (IsKnownIn s) (relvars_in_all s es)
   all_known none s = each_none (IsKnownIn s)

@@ -1,22 +1,23 @@
 -- Where an expression has a type, the types that it mentions are declared.
-use Rattle.std.proofs.Common.{◌≡◌, ◌∷◌, ◌++◌, ℕ, Bool, true, false, List, [], Option, Some, None, refl}
+use Rattle.std.proofs.Common.{◌≡◌, ◌∷◌, ◌++◌, ℕ, Bool, true, false, List, [], Option, Some, None, refl, subst, sym}
+use Rattle.std.proofs.lemmas.List.{append_assoc}
 use Rattle.std.specs.Prelude.{is_some}
 use Rattle.td_check.specs.Mentions.{types_in, types_in_all, types_in_named, types_in_items, types_named, types_named_in}
 use Rattle.td_check.specs.OperatorTypes.{Item, are_types_of, comparison_type, component_type, count_item, aggregate_item, aggregate_type, choice_type, extension_type, extracted_type, headed_type, known_or, listed_type, measure_type, mismatch, named_part, operator_type, over_relation, per_heading, postfix_type, prefix_type, selector_type, setting_type, summary_type, tuple_type, restriction_type}
-use Rattle.td_check.specs.Scopes.{Scope, entered_with}
-use Rattle.td_check.specs.StaticTypes.{items_of, named_types, both_types, type_of, types_of, with_items}
+use Rattle.td_check.specs.Scopes.{Scope, bound_to, entered_with}
+use Rattle.td_check.specs.StaticTypes.{items_of, named_types, both_types, type_of, type_where_bound, types_of, with_items}
 use Rattle.td_tree.specs.declared.cause.Cause.TheVariants as causes
 use Rattle.td_tree.specs.declared.operator.Operator.{Operator}
 use Rattle.td_tree.specs.Outcomes.{Outcome, Valued, Refused, value_if, with_both, with_value}
-use Rattle.td_tree.specs.Trees.{TypeTree, AttributeTrees, no_attributes, attribute, Tree, literal, name, parentheses, prefix, extract, restriction, binary, compare, postfix, select, component, measure, aggregate, relation, headed_relation, tuple, extend, extend_setting, summarize_per, summarize_by, choice, Trees, none, more, NamedTrees, none_named, more_named, Summaries, no_summaries, counted, summed}
+use Rattle.td_tree.specs.Trees.{TypeTree, AttributeTrees, no_attributes, attribute, Tree, literal, name, parentheses, prefix, extract, restriction, binary, compare, postfix, select, component, measure, aggregate, relation, headed_relation, tuple, extend, extend_setting, summarize_per, summarize_by, choice, binding, Trees, none, more, NamedTrees, none_named, more_named, Summaries, no_summaries, counted, summed}
 use Rattle.td_tree.specs.Trees as trees
-use Rattle.td_types.specs.Headings.{made_heading}
+use Rattle.td_types.specs.Headings.{has_name, made_heading}
 use Rattle.td_types.specs.TypeLists.{DeclaredType, attributes_meant, declared_at, heading_meant, is_declared, type_meant}
 use Rattle.td_types.specs.Types.{Heading, Type', unpack}
 use Rattle.td_types.specs.Types as types
 use Rattle.td_check.proofs.CarriedLaws.{Each}
 use Rattle.td_check.proofs.MentionedRelvarLaws.{each_both, each_none, each_one}
-use Rattle.td_check.proofs.OperatorLaws.{Gives, gives_both, gives_with}
+use Rattle.td_check.proofs.OperatorLaws.{Gives, gives_both, gives_unless, gives_with}
 
 -- D where there is a value
 abbrev pub Shows : Type 0 → {A : Type 0} → Outcome A → Type 0
@@ -204,6 +205,16 @@ mutual
       (both_types (type_of s consequent) (type_of s alternative)) (λ t both. choice_type t both.0 both.1) (types_show condition s)
       (both_show s.types (types_in consequent) (types_in alternative) (type_of s consequent) (type_of s alternative) (λ t u. Valued (t, u))
       (types_show consequent s) (types_show alternative s))
+  types_show (binding items result) s = bound_shows items [] s (types_in result) (λ t. type_of t result) (types_show result)
+
+  -- in WITH's items, and behind them
+  bound_shows : (items : NamedTrees) (before : List (List ℕ)) (s : Scope) (names : List (List ℕ)) (inside : Scope → Outcome Type')
+      → ((t : Scope) → Shows (AreThere t.types names) (inside t)) → Shows (AreThere s.types (types_in_named items ++ names)) (type_where_bound before s items inside)
+  bound_shows none_named before s names inside d = d s
+  bound_shows (more_named n e es) before s names inside d =
+      subst (λ ns. Shows (AreThere s.types ns) (type_where_bound before s (more_named n e es) inside)) (sym (append_assoc (types_in e) (types_in_named es) names))
+      (then_show s.types (types_in e) (types_in_named es ++ names) (type_of s e) _ (types_show e s)
+      (λ t. gives_unless (λ _. AreThere s.types (types_in_named es ++ names)) (has_name n before) _ (bound_shows es (n ∷ before) (bound_to n t s) names inside d)))
 
   pub all_show : (es : Trees) (s : Scope) → Shows (AreThere s.types (types_in_all es)) (types_of s es)
   all_show none s = none_there s.types

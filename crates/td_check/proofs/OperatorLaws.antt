@@ -2,7 +2,7 @@
 use Rattle.std.proofs.Common.{◌≡◌, ◌∷◌, ℕ, Bool, true, false, List, [], Option, Some, None, fold, map, refl, subst}
 use Rattle.std.specs.Prelude.{not, if◌then◌else◌, ⊤}
 use Rattle.std.specs.List.{AllByRecursion, filter}
-use Rattle.td_check.specs.OperatorTypes.{Item, count_item, aggregate_item, aggregate_type, choice_type, closure_type, comparison_type, element_type, equality_type, extension_type, extracted_type, headed_type, item_type, joined_apart, known_or, listed_type, measure_type, membership_type, named_part, operator_type, order_type, over_relation, over_tuple, per_heading, postfix_type, prefix_type, relation_if, renaming_pairs, setting_type, summary_type, tuple_type, restriction_type}
+use Rattle.td_check.specs.OperatorTypes.{Item, count_item, aggregate_item, aggregate_type, choice_type, closure_type, comparison_type, element_type, equality_type, extension_type, extracted_type, headed_type, item_type, joined_apart, known_or, listed_type, measure_type, membership_type, misfit, named_part, operator_type, order_type, over_relation, over_tuple, per_heading, postfix_type, prefix_type, relation_if, renaming_pairs, setting_type, summary_type, tuple_type, restriction_type}
 use Rattle.td_tree.specs.declared.cause.Cause.{Cause}
 use Rattle.td_tree.specs.declared.cause.Cause.TheVariants as causes
 use Rattle.td_tree.specs.declared.operator.Aggregate.{Aggregate}
@@ -48,6 +48,10 @@ module _ {A B C : Type 0} where
 pub gives_if : {A : Type 0} (P : A → Type 0) (test : Bool) (x : A) (cause : Cause) → P x → Gives P (value_if test x cause)
 gives_if P true x cause p = p
 gives_if P false x cause p = tt
+
+pub gives_unless : {A : Type 0} (P : A → Type 0) (twice : Bool) (o : Outcome A) → Gives P o → Gives P (if twice then misfit else o)
+gives_unless P true o g = tt
+gives_unless P false o g = g
 
 pub gives_known : {A : Type 0} (P : A → Type 0) (cause : Cause) (o : Option A) → ((x : A) → o ≡ Some x → P x) → Gives P (known_or cause o)
 gives_known P cause None p = tt

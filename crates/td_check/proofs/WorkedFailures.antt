@@ -5,7 +5,7 @@ use Rattle.std.specs.Prelude.{codes}
 use Rattle.td_check.specs.CannotFail.{cannot_fail}
 use Rattle.td_check.specs.Scopes.{Scope}
 use Rattle.td_check.specs.declared.scope.Kind.TheVariants.{Base, Virtual}
-use Rattle.td_tree.specs.Trees.{Tree, literal, number, truth, name, compare, binary, postfix, extend_setting, more_named, none_named, headed_relation, attribute, no_attributes, measure, more, none, select, prefix, rename, restriction}
+use Rattle.td_tree.specs.Trees.{Tree, literal, number, truth, name, compare, binary, postfix, extend_setting, binding, more_named, none_named, headed_relation, attribute, no_attributes, measure, more, none, select, prefix, rename, restriction}
 use Rattle.td_tree.specs.Trees as trees
 use Rattle.td_tree.specs.declared.operator.Comparison.TheVariants.{Equal}
 use Rattle.td_tree.specs.declared.operator.Measure.TheVariants.{Count, IsEmpty}
@@ -75,6 +75,16 @@ virtual_may = refl
 hidden_cannot : cannot_fail scope (restriction (postfix r (rename Older (record { old = codes "A"; new = codes "V" } ∷ [])))
     (compare (name (codes "V")) Equal one)) ≡ true
 hidden_cannot = refl
+
+-- WITH (V := R) : V cannot fail, since V is its item there; WITH (X := V) : X and WITH (X := 1 / 0) : 1 may
+bound_cannot : cannot_fail scope (binding (more_named (codes "V") r none_named) (name (codes "V"))) ≡ true
+bound_cannot = refl
+
+bound_may : cannot_fail scope (binding (more_named (codes "X") (name (codes "V")) none_named) (name (codes "X"))) ≡ false
+bound_may = refl
+
+unused_may : cannot_fail scope (binding (more_named (codes "X") (binary one Divide (literal (number false 0))) none_named) one) ≡ false
+unused_may = refl
 
 -- QTY(1) may; IS_EMPTY(RELATION {Q QTY} {}) cannot
 selector_may : cannot_fail scope (select (codes "QTY") (more one none)) ≡ false

@@ -2,12 +2,13 @@
 -- base relvar R of the heading {K INTEGER} and a virtual one V of the heading {K INTEGER, S CHAR}.
 use Rattle.std.proofs.Common.{◌≡◌, [], ◌∷◌, Some, None, refl, false}
 use Rattle.std.specs.Prelude.{codes}
+use Rattle.td_check.specs.Mentions.{relvars_in}
 use Rattle.td_check.specs.Scopes.{Scope}
 use Rattle.td_check.specs.StatementTypes.{statement_checked}
 use Rattle.td_check.specs.StaticTypes.{type_of}
 use Rattle.td_check.specs.declared.scope.Kind.TheVariants.{Base, Virtual}
 use Rattle.td_tree.specs.Outcomes.{Valued, named_cause}
-use Rattle.td_tree.specs.Trees.{Tree, literal, number, text, name, parentheses, compare, binary, postfix, project, only, extend, extend_setting, more_named, none_named, AttributeTrees, attribute, no_attributes, define_base, define_virtual, assign_all, assign, insert, disjoint_insert, included_delete, update, summarize_per, summed, no_summaries, more, none, select, rename, restriction}
+use Rattle.td_tree.specs.Trees.{Tree, literal, number, text, name, parentheses, compare, binary, postfix, project, only, extend, extend_setting, binding, more_named, none_named, AttributeTrees, attribute, no_attributes, define_base, define_virtual, assign_all, assign, insert, disjoint_insert, included_delete, update, summarize_per, summed, no_summaries, more, none, select, rename, restriction}
 use Rattle.td_tree.specs.Trees as trees
 use Rattle.td_tree.specs.declared.cause.Cause.TheVariants as causes
 use Rattle.td_tree.specs.declared.operator.Aggregate.TheVariants.{Sum}
@@ -85,6 +86,47 @@ set_twice = refl
 
 settings_not_checked : named_cause (type_of scope (extend_setting one (more_named (codes "A") z none_named))) ≡ Some causes.TypeMismatch
 settings_not_checked = refl
+
+-- WITH (X := 1, Y := X + 1) : X + Y is an INTEGER: a later item sees the earlier ones
+abbrev x : Tree
+x = name (codes "X")
+
+bound_in_turn : type_of scope (binding (more_named (codes "X") one (more_named (codes "Y") (binary x Add one) none_named)) (binary x Add (name (codes "Y"))))
+    ≡ Valued integer
+bound_in_turn = refl
+
+-- WITH (X := X) : 1, WITH (X := Y, Y := 1) : X and (WITH (X := 1) : X) + X are NAME_UNKNOWN
+own_name_unknown : named_cause (type_of scope (binding (more_named (codes "X") x none_named) one)) ≡ Some causes.NameUnknown
+own_name_unknown = refl
+
+later_name_unknown : named_cause (type_of scope (binding (more_named (codes "X") (name (codes "Y")) (more_named (codes "Y") one none_named)) x))
+    ≡ Some causes.NameUnknown
+later_name_unknown = refl
+
+name_behind_unknown : named_cause (type_of scope (binary (parentheses (binding (more_named (codes "X") one none_named) x)) Add x)) ≡ Some causes.NameUnknown
+name_behind_unknown = refl
+
+-- WITH (X := 1, X := 1) : Z is HEADING, WITH (X := Z, X := 1) : 1 NAME_UNKNOWN
+bound_twice : named_cause (type_of scope (binding (more_named (codes "X") one (more_named (codes "X") one none_named)) z)) ≡ Some causes.Heading
+bound_twice = refl
+
+first_item_refused : named_cause (type_of scope (binding (more_named (codes "X") z (more_named (codes "X") one none_named)) one)) ≡ Some causes.NameUnknown
+first_item_refused = refl
+
+-- WITH (R := V) : R is of V's heading, and mentions V alone
+abbrev hidden : Tree
+hidden = binding (more_named (codes "R") (name (codes "V")) none_named) r
+
+relvar_hidden : type_of scope hidden ≡ Valued (types.relation (pack ((codes "K", integer) ∷ (codes "S", char) ∷ [])))
+relvar_hidden = refl
+
+hidden_not_mentioned : relvars_in scope hidden ≡ codes "V" ∷ []
+hidden_not_mentioned = refl
+
+-- WITH (K := 'a') : R WHERE K = 1: an attribute in hand hides the name of an item
+item_hidden : type_of scope (binding (more_named (codes "K") (literal (text (codes "a"))) none_named) (restriction r (compare (name (codes "K")) Equal one)))
+    ≡ Valued (types.relation (pack ((codes "K", integer) ∷ [])))
+item_hidden = refl
 
 -- R D_UNION V and R I_MINUS V are HEADING, R D_UNION 1 TYPE_MISMATCH
 union_of_other : named_cause (type_of scope (binary r DisjointUnion (name (codes "V")))) ≡ Some causes.Heading

@@ -1,11 +1,11 @@
 -- The names that stand in the parts of an expression.
-use Rattle.std.proofs.Common.{◌≡◌, ◌∙◌, ◌∷◌, ◌++◌, ◌+◌, ◌<◌, ◌≤◌, ◌⊎◌, inl, inr, ℕ, Bool, true, false, List, [], ap, arith, get_or, length, refl, sym, take}
+use Rattle.std.proofs.Common.{◌≡◌, ◌∙◌, ◌∷◌, ◌++◌, ◌+◌, ◌<◌, ◌≤◌, ◌⊎◌, inl, inr, ℕ, Bool, true, false, List, [], ap, arith, get_or, length, refl, subst, sym, take}
 use Rattle.std.specs.Global.{Box, Vec}
 use Rattle.std.specs.Prelude.{if◌then◌else◌, is_some}
 use Rattle.std.specs.List.{Contains}
 use Rattle.std.proofs.lemmas.List.{append-nil, append_assoc, take_all}
 use Rattle.std.proofs.lemmas.List.Elements.{Contains-append_cases, Contains-append_left, Contains-append_right}
-use Rattle.td_check.specs.Mentions.{in_tuples, mentioned_by_name, relvars_in, relvars_in_all, relvars_in_items, relvars_in_named}
+use Rattle.td_check.specs.Mentions.{behind_item, in_tuples, mentioned_by_name, relvars_in, relvars_in_all, relvars_in_items, relvars_in_named, relvars_where_bound}
 use Rattle.td_check.specs.Scopes.{Scope, innermost, known_relvar}
 use Rattle.td_check.specs.StaticLaws.{RelvarsAreNamed}
 use Rattle.td_check.specs.StaticTypes.{type_of}
@@ -18,7 +18,7 @@ use Rattle.td_tree.specs.declared.expression.Summary.{Summary}
 use Rattle.td_tree.specs.declared.expression.Summary.TheVariants as s
 use Rattle.td_tree.specs.declared.type_tree.AttributeTree.{AttributeTree}
 use Rattle.td_tree.specs.code.TreeViews.{named_view, summaries_view, tree_view, trees_view}
-use Rattle.td_tree.specs.Trees.{Tree, literal, name, parentheses, prefix, extract, restriction, binary, compare, postfix, select, component, measure, aggregate, relation, headed_relation, tuple, extend, extend_setting, summarize_per, summarize_by, choice, Trees, none, more, NamedTrees, none_named, more_named, Summaries, no_summaries, counted, summed}
+use Rattle.td_tree.specs.Trees.{Tree, literal, name, parentheses, prefix, extract, restriction, binary, compare, postfix, select, component, measure, aggregate, relation, headed_relation, tuple, extend, extend_setting, summarize_per, summarize_by, choice, binding, Trees, none, more, NamedTrees, none_named, more_named, Summaries, no_summaries, counted, summed}
 use Rattle.td_tree.proofs.code_lemmas.Rows.{extend_is, extend_setting_is, headed_relation_is, relation_is, select_is}
 
 -- ---- one part after another
@@ -149,6 +149,15 @@ mutual
       both_within _ _ _ _ (named operand scope) (items_named summaries (in_tuples scope (type_of scope operand)))
   named (choice condition consequent alternative) scope =
       both_within _ _ _ _ (named condition scope) (both_within _ _ _ _ (named consequent scope) (named alternative scope))
+  named (binding items result) scope = bound_named items scope (names_in result) (λ t. relvars_in t result) (named result)
+
+  -- in WITH's items, and behind them
+  bound_named : (items : NamedTrees) (scope : Scope) (ns : List (List ℕ)) (inside : Scope → List (List ℕ)) → ((t : Scope) → Within (inside t) ns)
+      → Within (relvars_where_bound scope items inside) (names_in_named items ++ ns)
+  bound_named none_named scope ns inside w = w scope
+  bound_named (more_named n e es) scope ns inside w =
+      subst (Within (relvars_where_bound scope (more_named n e es) inside)) (sym (append_assoc (names_in e) (names_in_named es) ns))
+      (both_within _ _ _ _ (named e scope) (bound_named es (behind_item n (type_of scope e) scope) ns inside w))
 
   all_named : (es : Trees) (scope : Scope) → Within (relvars_in_all scope es) (names_in_all es)
   all_named none scope = nothing_within []

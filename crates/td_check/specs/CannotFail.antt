@@ -6,7 +6,7 @@ use Rattle.std.specs.Prelude.{ℕ, Bool, true, false, not, ◌&&◌, ◌||◌, L
 use Rattle.std.specs.List.{list_all}
 use Rattle.td_check.specs.declared.scope.Kind.{Kind}
 use Rattle.td_check.specs.declared.scope.Kind.TheVariants as kinds
-use Rattle.td_check.specs.Mentions.{in_tuples}
+use Rattle.td_check.specs.Mentions.{behind_item, in_tuples}
 use Rattle.td_check.specs.Scopes.{KnownRelvar, Scope, innermost, relvar_in}
 use Rattle.td_check.specs.StaticTypes.{type_of}
 use Rattle.td_tree.specs.declared.operator.Measure.{Measure}
@@ -16,7 +16,7 @@ use Rattle.td_tree.specs.declared.operator.Operator.TheVariants as operators
 use Rattle.td_tree.specs.declared.operator.Prefix.{Prefix}
 use Rattle.td_tree.specs.declared.operator.Prefix.TheVariants as prefixes
 use Rattle.td_tree.specs.Outcomes.{Outcome, Valued, with_value}
-use Rattle.td_tree.specs.Trees.{Tree, literal, name, parentheses, prefix, extract, restriction, binary, compare, postfix, select, component, measure, aggregate, relation, headed_relation, tuple, extend, extend_setting, summarize_per, summarize_by, choice, Trees, none, more, NamedTrees, none_named, more_named, Summaries, no_summaries, counted, summed}
+use Rattle.td_tree.specs.Trees.{Tree, literal, name, parentheses, prefix, extract, restriction, binary, compare, postfix, select, component, measure, aggregate, relation, headed_relation, tuple, extend, extend_setting, summarize_per, summarize_by, choice, binding, Trees, none, more, NamedTrees, none_named, more_named, Summaries, no_summaries, counted, summed}
 use Rattle.td_types.specs.TypeLists.{DeclaredType, declared_at}
 
 -- ---- kinds of nodes
@@ -114,6 +114,7 @@ abbrev mutual
   cannot_fail scope (summarize_by operand by summaries) = items_cannot_fail summaries && cannot_fail scope operand
   cannot_fail scope (choice condition consequent alternative) =
       cannot_fail scope condition && (cannot_fail scope consequent && cannot_fail scope alternative)
+  cannot_fail scope (binding items result) = none_fails_where_bound scope items (λ inner. cannot_fail inner result)
 
   pub all_cannot_fail : Scope → Trees → Bool
   all_cannot_fail scope none = true
@@ -122,6 +123,12 @@ abbrev mutual
   pub parts_cannot_fail : Scope → NamedTrees → Bool
   parts_cannot_fail scope none_named = true
   parts_cannot_fail scope (more_named n value rest) = cannot_fail scope value && parts_cannot_fail scope rest
+
+  -- whether none of WITH's items can fail, nor what stands where their values are in scope
+  pub none_fails_where_bound : Scope → NamedTrees → (Scope → Bool) → Bool
+  none_fails_where_bound scope none_named inside = inside scope
+  none_fails_where_bound scope (more_named n value rest) inside =
+      cannot_fail scope value && none_fails_where_bound (behind_item n (type_of scope value) scope) rest inside
 
 -- of an expression that has a type; another is refused as its type is
 abbrev pub cannot_fail_of : Scope → Tree → Outcome Bool
@@ -156,6 +163,7 @@ abbrev mutual
   unfailing types (summarize_by operand by summaries) = items_cannot_fail summaries && unfailing types operand
   unfailing types (choice condition consequent alternative) =
       unfailing types condition && (unfailing types consequent && unfailing types alternative)
+  unfailing types (binding items result) = parts_unfailing types items && unfailing types result
 
   pub all_unfailing : List DeclaredType → Trees → Bool
   all_unfailing types none = true

@@ -4,10 +4,10 @@ use Rattle.std.specs.Prelude.{ℕ, List, [], ◌∷◌, ◌++◌, fold, is_some,
 use Rattle.std.specs.Cmp.Lexicographic.{slice_cmp}
 use Rattle.std.specs.Ordering.{nat_cmp}
 use Rattle.std.specs.BTreeSet.{insert_key}
-use Rattle.td_check.specs.Scopes.{Scope, entered_with, innermost, known_relvar}
+use Rattle.td_check.specs.Scopes.{Scope, bound_to, entered_with, innermost, known_relvar}
 use Rattle.td_check.specs.StaticTypes.{type_of}
-use Rattle.td_tree.specs.Outcomes.{Outcome, Valued, with_value}
-use Rattle.td_tree.specs.Trees.{TypeTree, AttributeTrees, no_attributes, attribute, user, tuple_type, relation_type, Tree, literal, name, parentheses, prefix, extract, restriction, binary, compare, postfix, select, component, measure, aggregate, relation, headed_relation, tuple, extend, extend_setting, summarize_per, summarize_by, choice, Trees, none, more, NamedTrees, none_named, more_named, Summaries, no_summaries, counted, summed}
+use Rattle.td_tree.specs.Outcomes.{Outcome, Refused, Valued, with_value}
+use Rattle.td_tree.specs.Trees.{TypeTree, AttributeTrees, no_attributes, attribute, user, tuple_type, relation_type, Tree, literal, name, parentheses, prefix, extract, restriction, binary, compare, postfix, select, component, measure, aggregate, relation, headed_relation, tuple, extend, extend_setting, summarize_per, summarize_by, choice, binding, Trees, none, more, NamedTrees, none_named, more_named, Summaries, no_summaries, counted, summed}
 use Rattle.td_tree.specs.Trees as trees
 use Rattle.td_types.specs.Types as types
 
@@ -22,6 +22,11 @@ mentioned_by_name scope n =
 abbrev pub in_tuples : Scope → Outcome types.Type' → Scope
 in_tuples scope (Valued (types.relation h)) = entered_with (types.unpack h) scope
 in_tuples scope _ = scope
+
+-- the scope behind an item of WITH: its name is in scope where it has a type
+abbrev pub behind_item : List ℕ → Outcome types.Type' → Scope → Scope
+behind_item n (Valued t) scope = bound_to n t scope
+behind_item n (Refused cs) scope = scope
 
 abbrev mutual
   -- the relvars, in the order written, but for SUMMARIZE: those of what it adds come before those of PER
@@ -55,6 +60,7 @@ abbrev mutual
       relvars_in scope operand ++ relvars_in_items (in_tuples scope (type_of scope operand)) summaries
   relvars_in scope (choice condition consequent alternative) =
       relvars_in scope condition ++ (relvars_in scope consequent ++ relvars_in scope alternative)
+  relvars_in scope (binding items result) = relvars_where_bound scope items (λ inner. relvars_in inner result)
 
   pub relvars_in_all : Scope → Trees → List (List ℕ)
   relvars_in_all scope none = []
@@ -63,6 +69,12 @@ abbrev mutual
   pub relvars_in_named : Scope → NamedTrees → List (List ℕ)
   relvars_in_named scope none_named = []
   relvars_in_named scope (more_named n value rest) = relvars_in scope value ++ relvars_in_named scope rest
+
+  -- those in WITH's items, and then those in what stands where their values are in scope
+  pub relvars_where_bound : Scope → NamedTrees → (Scope → List (List ℕ)) → List (List ℕ)
+  relvars_where_bound scope none_named inside = inside scope
+  relvars_where_bound scope (more_named n value rest) inside =
+      relvars_in scope value ++ relvars_where_bound (behind_item n (type_of scope value) scope) rest inside
 
   pub relvars_in_items : Scope → Summaries → List (List ℕ)
   relvars_in_items scope no_summaries = []
@@ -111,6 +123,7 @@ abbrev mutual
   types_in (summarize_by operand by summaries) = types_in operand ++ types_in_items summaries
   types_in (choice condition consequent alternative) =
       types_in condition ++ (types_in consequent ++ types_in alternative)
+  types_in (binding items result) = types_in_named items ++ types_in result
 
   pub types_in_all : Trees → List (List ℕ)
   types_in_all none = []

@@ -45,6 +45,10 @@ abbrev pub entered_with : Heading → Scope → Scope
 entered_with heading scope =
     record { types = scope.types; relvars = scope.relvars; constraints = scope.constraints; entered = heading ∷ scope.entered }
 
+-- where the value of this type is in scope by a name, as the one attribute of a tuple is
+abbrev pub bound_to : List ℕ → Type' → Scope → Scope
+bound_to name t scope = entered_with ((name, t) ∷ []) scope
+
 -- where only the types and the attributes of one heading are known
 abbrev pub alone_with : Heading → Scope → Scope
 alone_with heading scope =

@@ -10,10 +10,9 @@ use Rattle.td_check.specs.StaticTypes.{items_of, named_types, type_of, types_of}
 use Rattle.td_check.specs.WrittenNames.{names_in}
 use Rattle.td_tree.specs.Names.{IsName}
 use Rattle.td_tree.specs.Outcomes.{Outcome, Valued}
-use Rattle.td_tree.specs.Trees.{Postfix, project, rename, group, ungroup, wrap, unwrap, Tree, literal, name, parentheses, prefix, extract, restriction, binary, compare, postfix, select, component, measure, aggregate, headed_relation, extend, extend_setting, summarize_per, summarize_by, choice, Trees, none, more, NamedTrees, none_named, more_named, Summaries, no_summaries, counted, summed}
-use Rattle.td_tree.specs.Trees as trees
+use Rattle.td_tree.specs.Trees.{NamedTrees, Tree, Trees}
+use Rattle.td_tree.specs.WrittenTrees.{GiveNames, GivesNames, PartsGiveNames}
 use Rattle.td_types.specs.Headings.{has_name}
-use Rattle.td_types.specs.TypeListLaws.{HaveNames}
 use Rattle.td_types.specs.TypeLists.{AreDeclared, AreKnown, DeclaredType, IsKnown, declared_at, is_declared}
 use Rattle.td_types.specs.Types.{Attrs, Attribute, Heading, IsHeading, IsType, Type', attr, boolean, char, integer, no_attrs, pack, relation, same_name, tuple, user}
 
@@ -44,53 +43,6 @@ pub record ScopesAreKept : Type 0 where
       (n : List ℕ) (kind : Kind) (h : Heading) (scope : Scope) → IsScope scope → IsKnownHeading scope.types h
       → IsScope (with_known_relvar n kind h scope)
   pub one_constraint : (n : List ℕ) (scope : Scope) → IsScope scope → IsScope (with_known_constraint n scope)
-
--- the names that an operator gives to attributes are names
-abbrev pub OperatorGivesNames : Postfix → Type 0
-OperatorGivesNames (project attributes) = ⊤
-OperatorGivesNames (rename style renamings) = AllByRecursion (λ r. IsName r.new) renamings
-OperatorGivesNames (group style attributes n) = IsName n
-OperatorGivesNames (ungroup n) = ⊤
-OperatorGivesNames (wrap style attributes n) = IsName n
-OperatorGivesNames (unwrap n) = ⊤
-
-abbrev mutual
-  -- the names that an expression gives to attributes are names, and so are those in its headings, at every depth
-  pub GivesNames : Tree → Type 0
-  GivesNames (literal l) = ⊤
-  GivesNames (name n) = ⊤
-  GivesNames (parentheses inner) = GivesNames inner
-  GivesNames (prefix op operand) = GivesNames operand
-  GivesNames (extract a operand) = GivesNames operand
-  GivesNames (restriction operand condition) = GivesNames operand × GivesNames condition
-  GivesNames (binary without_innermost op right) = GivesNames without_innermost × GivesNames right
-  GivesNames (compare without_innermost op right) = GivesNames without_innermost × GivesNames right
-  GivesNames (postfix operand op) = GivesNames operand × OperatorGivesNames op
-  GivesNames (select ty arguments) = GiveNames arguments
-  GivesNames (component rest operand) = GivesNames operand
-  GivesNames (measure op operand) = GivesNames operand
-  GivesNames (aggregate op operand value) = GivesNames operand × GivesNames value
-  GivesNames (trees.relation elements) = GiveNames elements
-  GivesNames (headed_relation heading elements) = HaveNames heading × GiveNames elements
-  GivesNames (trees.tuple parts) = PartsGiveNames parts
-  GivesNames (extend operand parts) = GivesNames operand × PartsGiveNames parts
-  GivesNames (extend_setting operand settings) = GivesNames operand × PartsGiveNames settings
-  GivesNames (summarize_per operand per summaries) = GivesNames operand × GivesNames per × ItemsGiveNames summaries
-  GivesNames (summarize_by operand by summaries) = GivesNames operand × ItemsGiveNames summaries
-  GivesNames (choice condition consequent alternative) = GivesNames condition × GivesNames consequent × GivesNames alternative
-
-  pub GiveNames : Trees → Type 0
-  GiveNames none = ⊤
-  GiveNames (more first rest) = GivesNames first × GiveNames rest
-
-  pub PartsGiveNames : NamedTrees → Type 0
-  PartsGiveNames none_named = ⊤
-  PartsGiveNames (more_named n value rest) = IsName n × GivesNames value × PartsGiveNames rest
-
-  pub ItemsGiveNames : Summaries → Type 0
-  ItemsGiveNames no_summaries = ⊤
-  ItemsGiveNames (counted n rest) = IsName n × ItemsGiveNames rest
-  ItemsGiveNames (summed op value n rest) = GivesNames value × IsName n × ItemsGiveNames rest
 
 -- the type of an expression is a type whose user types are declared; so are those of several expressions
 pub record TypesAreKnown : Type 0 where

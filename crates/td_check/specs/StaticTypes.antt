@@ -1,12 +1,13 @@
 -- The type of an expression in a scope, or the causes for which it has none (Tutorial D's; the causes are this project's
 -- own). The causes of all parts count; a node's rule is tested only where its parts have types. A
 -- part that stands in an operand's tuples is checked only where that operand is a relation.
-use Rattle.std.specs.Prelude.{ℕ, List, [], ◌∷◌, Option, Some, None}
-use Rattle.td_check.specs.OperatorTypes.{Item, count_item, aggregate_item, aggregate_type, choice_type, comparison_type, component_type, extension_type, extracted_type, headed_type, known_or, listed_type, measure_type, mismatch, named_part, operator_type, over_relation, per_heading, postfix_type, prefix_type, selector_type, setting_type, summary_type, tuple_type, restriction_type}
-use Rattle.td_check.specs.Scopes.{Scope, entered_with, innermost, known_relvar}
+use Rattle.std.specs.Prelude.{ℕ, List, [], ◌∷◌, Option, Some, None, if◌then◌else◌}
+use Rattle.td_check.specs.OperatorTypes.{Item, count_item, aggregate_item, aggregate_type, choice_type, comparison_type, component_type, extension_type, extracted_type, headed_type, known_or, listed_type, measure_type, misfit, mismatch, named_part, operator_type, over_relation, per_heading, postfix_type, prefix_type, selector_type, setting_type, summary_type, tuple_type, restriction_type}
+use Rattle.td_check.specs.Scopes.{Scope, bound_to, entered_with, innermost, known_relvar}
 use Rattle.td_tree.specs.declared.cause.Cause.TheVariants as causes
 use Rattle.td_tree.specs.Outcomes.{Outcome, Valued, with_value, with_both}
-use Rattle.td_tree.specs.Trees.{Literal, number, text, truth, table_dee, table_dum, Tree, literal, name, parentheses, prefix, extract, restriction, binary, compare, postfix, select, component, measure, aggregate, relation, headed_relation, tuple, extend, extend_setting, summarize_per, summarize_by, choice, Trees, none, more, NamedTrees, none_named, more_named, Summaries, no_summaries, counted, summed}
+use Rattle.td_tree.specs.Trees.{Literal, number, text, truth, table_dee, table_dum, Tree, literal, name, parentheses, prefix, extract, restriction, binary, compare, postfix, select, component, measure, aggregate, relation, headed_relation, tuple, extend, extend_setting, summarize_per, summarize_by, choice, binding, Trees, none, more, NamedTrees, none_named, more_named, Summaries, no_summaries, counted, summed}
+use Rattle.td_types.specs.Headings.{has_name}
 use Rattle.td_types.specs.TypeLists.{heading_meant}
 use Rattle.td_types.specs.Types.{Type', boolean, integer, char, no_attrs, Attribute, Heading, pack}
 use Rattle.td_types.specs.Types as types
@@ -76,6 +77,15 @@ abbrev mutual
       with_both (type_of scope condition)
       (both_types (type_of scope consequent) (type_of scope alternative))
       (λ c both. choice_type c both.0 both.1)
+  type_of scope (binding items result) = type_where_bound [] scope items (λ inner. type_of inner result)
+
+  -- the type of what stands where the values of WITH's items are in scope. An item is checked where those before it are in
+  -- scope, and only where they have types and distinct names: a name twice is HEADING
+  pub type_where_bound : List (List ℕ) → Scope → NamedTrees → (Scope → Outcome Type') → Outcome Type'
+  type_where_bound before scope none_named inside = inside scope
+  type_where_bound before scope (more_named n value rest) inside =
+      with_value (type_of scope value)
+      (λ t. if has_name n before then misfit else type_where_bound (n ∷ before) (bound_to n t scope) rest inside)
 
   -- the types of expressions, in the order written
   pub types_of : Scope → Trees → Outcome (List Type')

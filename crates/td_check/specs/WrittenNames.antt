@@ -1,6 +1,6 @@
 -- The names that stand as expressions in an expression, whatever is known (this project's own).
 use Rattle.std.specs.Prelude.{ℕ, List, [], ◌∷◌, ◌++◌}
-use Rattle.td_tree.specs.Trees.{Tree, literal, name, parentheses, prefix, extract, restriction, binary, compare, postfix, select, component, measure, aggregate, relation, headed_relation, tuple, extend, extend_setting, summarize_per, summarize_by, choice, Trees, none, more, NamedTrees, none_named, more_named, Summaries, no_summaries, counted, summed}
+use Rattle.td_tree.specs.Trees.{Tree, literal, name, parentheses, prefix, extract, restriction, binary, compare, postfix, select, component, measure, aggregate, relation, headed_relation, tuple, extend, extend_setting, summarize_per, summarize_by, choice, binding, Trees, none, more, NamedTrees, none_named, more_named, Summaries, no_summaries, counted, summed}
 
 abbrev mutual
   -- in the order written
@@ -26,6 +26,7 @@ abbrev mutual
   names_in (summarize_per operand per summaries) = names_in operand ++ (names_in per ++ names_in_items summaries)
   names_in (summarize_by operand by summaries) = names_in operand ++ names_in_items summaries
   names_in (choice condition consequent alternative) = names_in condition ++ (names_in consequent ++ names_in alternative)
+  names_in (binding items result) = names_in_named items ++ names_in result
 
   pub names_in_all : Trees → List (List ℕ)
   names_in_all none = []

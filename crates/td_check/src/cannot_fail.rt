@@ -109,6 +109,7 @@ fn unfailing(types: &TypeTable, expr: &Expr) -> bool
         Expr::If(condition, first, second) => {
             unfailing(types, condition) && unfailing(types, first) && unfailing(types, second)
         }
+        Expr::With(items, result) => parts_unfailing(types, items) && unfailing(types, result),
     }
 }
 

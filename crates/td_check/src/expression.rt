@@ -1,13 +1,15 @@
 //! The type of an expression.
 ghost use Rattle.std.specs.Prelude.{◌≡◌, ◌∷◌, [], IfOk, IsTrue, OnOk, Ok, is_some, map};
-ghost use Rattle.td_check.specs.code.CheckViews.{added_view, item_found, names_view, part_found};
+ghost use Rattle.td_check.specs.code.CheckViews.{added_view, bound_found, bounds_found};
+ghost use Rattle.td_check.specs.code.CheckViews.{item_found, names_view, part_found};
 ghost use Rattle.td_check.specs.code.CheckViews.{with_names};
 ghost use Rattle.td_check.specs.code.ItemViews.{items_view, named_item_view};
 ghost use Rattle.td_check.specs.Mentions.{in_tuples, mentioned_by_name, relvars_in, relvars_in_all};
-ghost use Rattle.td_check.specs.Mentions.{relvars_in_items, relvars_in_named, types_in};
+ghost use Rattle.td_check.specs.Mentions.{relvars_in_items, relvars_in_named};
+ghost use Rattle.td_check.specs.Mentions.{relvars_where_bound, types_in};
 ghost use Rattle.td_check.specs.Mentions.{types_in_all, types_in_items, types_in_named};
 ghost use Rattle.td_check.specs.OperatorTypes.{over_relation};
-ghost use Rattle.td_check.specs.code.PlaceViews.{scope_at};
+ghost use Rattle.td_check.specs.code.PlaceViews.{is_bound, scope_at, within_all};
 ghost use Rattle.td_check.specs.Scopes.{entered_with};
 ghost use Rattle.td_check.specs.StaticTypes.{items_of, name_type, named_types, type_of, types_of};
 ghost use Rattle.td_check.specs.StaticTypes.{with_items};
@@ -19,7 +21,7 @@ ghost use Rattle.td_types.specs.code.Views.{pairs_view, type_view};
 
 use crate::mentioned::{Mentions, add_types_in};
 use crate::place::Place;
-use crate::rules::asked::relation_heading;
+use crate::rules::asked::{ask, relation_heading};
 use crate::rules::lists::{Item, listed_type, selector_type, tuple_type};
 use crate::rules::operand::{
     aggregate_type, component_type, extracted_type, literal_type, measure_type, prefix_type,
@@ -36,6 +38,7 @@ use td_tree::fault::Fault;
 use td_tree::gathering::{Gathering, both};
 use td_tree::name::Name;
 use td_tree::operator::Operator;
+use td_types::heading::Heading;
 use td_types::resolve::resolve_heading;
 use td_types::ty::Ty;
 
@@ -129,6 +132,10 @@ fn check(expr: &Expr, place: &Place<'_, '_, '_>, seen: &mut Mentions) -> Result<
             let first = check(first, place, seen);
             let second = check(second, place, seen);
             type_of_choice(both(condition, both(first, second)))
+        }
+        Expr::With(items, inside) => {
+            let bounds = check_bounds(items, place, seen)?;
+            check(inside, &place.inside_all(&bounds)?, seen)
         }
     }
 }
@@ -229,6 +236,54 @@ fn check_named_inside(
 {
     let heading = relation_heading(operand)?;
     check_named(parts, &place.inside(heading)?, seen)
+}
+
+/// Whether one of the headings has an attribute of the name.
+fn is_bound(name: &Name, bounds: &[Heading]) -> bool
+    ensures { result ≡ is_bound name.now bounds.now }
+{
+    bounds.iter().any(|bound| bound.get(name).is_some())
+}
+
+/// The heading of the one attribute that an item of WITH is, behind the items before it. It is
+/// refused where one of them has its name.
+#[cycle(check)]
+fn check_binding(
+    item: &NamedExpr,
+    bounds: &[Heading],
+    place: &Place<'_, '_, '_>,
+    seen: &mut Mentions,
+) -> Result<Heading, Fault>
+    ensures heading { Answers (λ h. h) result
+        (bound_found bounds.now (scope_at place.now) item.now) }
+    ensures names { OnOk result (names_view seen.new ≡ with_names (names_view seen.old)
+        (relvars_in (within_all bounds.now (scope_at place.now)) (tree_view item.now.value))
+        (types_in (tree_view item.now.value))) }
+{
+    let (name, ty) = check_part(item, &place.inside_all(bounds)?, seen)?;
+    ask(!is_bound(&name, bounds), Cause::Heading)?;
+    Ok(Heading::empty(place.allocator()).add(name, ty)?)
+}
+
+/// The headings of one attribute that WITH's items are, each checked behind those before it.
+#[cycle(check)]
+fn check_bounds(
+    items: &[NamedExpr],
+    place: &Place<'_, '_, '_>,
+    seen: &mut Mentions,
+) -> Result<Vec<Heading>, Fault>
+    ensures bounds { Answers (λ b. b.items) result
+        (bounds_found [] (scope_at place.now) items.now) }
+    ensures names { OnOk result (names_view seen.new ≡ with_names (names_view seen.old)
+        (relvars_where_bound (scope_at place.now) (named_view items.now) (λ _. []))
+        (types_in_named (named_view items.now))) }
+{
+    let mut bounds = Vec::with_capacity(place.allocator(), items.len())?;
+    for item in items {
+        let bound = check_binding(item, &bounds, place, seen)?;
+        bounds.push(bound)?;
+    }
+    Ok(bounds)
 }
 
 /// An item of SUMMARIZE with the type of its expression.

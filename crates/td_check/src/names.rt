@@ -56,6 +56,10 @@ fn add_names(expr: &Expr, names: &mut Vec<Name>) -> Result<(), AllocError>
             add_names(first, names)?;
             add_names(second, names)
         }
+        Expr::With(items, result) => {
+            add_named(items, names)?;
+            add_names(result, names)
+        }
     }
 }
 

@@ -1,6 +1,6 @@
 //! Where an expression stands.
-ghost use Rattle.std.specs.Prelude.{◌≡◌, IfOk, option_map};
-ghost use Rattle.td_check.specs.code.PlaceViews.{scope_at};
+ghost use Rattle.std.specs.Prelude.{◌≡◌, ◌<◌, ◌^◌, IfOk, option_map};
+ghost use Rattle.td_check.specs.code.PlaceViews.{scope_at, within_all};
 ghost use Rattle.td_check.specs.code.ScopeCode.{seen_view};
 ghost use Rattle.td_check.specs.Scopes.{entered_with, innermost, kind_and_heading, known_relvar};
 ghost use Rattle.td_types.specs.code.Views.{type_view};
@@ -31,17 +31,48 @@ impl<'s, 't, 'h> Place<'s, 't, 'h> {
         }
     }
 
+    /// The headings, with room for so many more.
+    fn inner_with_room<'n>(&self, more: usize) -> Result<Vec<&'n Heading>, AllocError>
+    where
+        'h: 'n,
+        requires { more < 2 ^ 63 }
+        ensures { IfOk result (λ headings. headings.items ≡ self.now.inner.items) }
+    {
+        let mut inner = Vec::with_capacity(self.allocator(), self.inner.len() + more)?;
+        for outer in &self.inner {
+            inner.push(*outer)?;
+        }
+        Ok(inner)
+    }
+
     /// Where an expression stands that is applied to each tuple of the heading.
     pub(crate) fn inside<'n>(&self, heading: &'n Heading) -> Result<Place<'s, 't, 'n>, AllocError>
     where
         'h: 'n,
         ensures { IfOk result (λ p. scope_at p ≡ entered_with heading.now (scope_at self.now)) }
     {
-        let mut inner = Vec::with_capacity(self.allocator(), self.inner.len() + 1)?;
-        for outer in &self.inner {
-            inner.push(*outer)?;
-        }
+        let mut inner = self.inner_with_room(1)?;
         inner.push(heading)?;
+        Ok(Place {
+            scope: self.scope,
+            inner,
+        })
+    }
+
+    /// Where an expression stands within a tuple of each of the headings: of two attributes of one
+    /// name it sees that of the later heading.
+    pub(crate) fn inside_all<'n>(
+        &self,
+        headings: &'n [Heading],
+    ) -> Result<Place<'s, 't, 'n>, AllocError>
+    where
+        'h: 'n,
+        ensures { IfOk result (λ p. scope_at p ≡ within_all headings.now (scope_at self.now)) }
+    {
+        let mut inner = self.inner_with_room(headings.len())?;
+        for heading in headings {
+            inner.push(heading)?;
+        }
         Ok(Place {
             scope: self.scope,
             inner,

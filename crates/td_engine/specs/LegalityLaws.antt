@@ -4,11 +4,11 @@ use Rattle.td_catalog.specs.Database.{Database}
 use Rattle.td_engine.specs.code.Carried.{IsSpelledStatement}
 use Rattle.td_engine.specs.Machine.{Accepted, Progress, Runs, State, progress_at_first, effect}
 use Rattle.td_engine.specs.Legality.{IsLegal, IsLegalState}
-use Rattle.td_eval.specs.ValueTypes.{IsWritten}
 use Rattle.td_tree.specs.StatementGrammar.{ExpressionItem}
 use Rattle.td_tree.specs.Statements.{PlacedToken}
 use Rattle.td_tree.specs.TokenLexemes.{lexemes}
 use Rattle.td_tree.specs.Trees.{Statement, Tree}
+use Rattle.td_tree.specs.WrittenTrees.{IsWritten}
 
 -- in an expression that some tokens spell the names are names, and the texts are UTF-8
 abbrev pub SpelledExpressionsAreWritten : Type 0

@@ -2,6 +2,7 @@
 ghost use Rattle.std.specs.Prelude.{◌≡◌, ◌∷◌, ℕ, List, [], IfOk, IsTrue, length, map};
 ghost use Rattle.std.specs.Prelude.{option_map};
 ghost use Rattle.td_body.specs.Bodies.{after_change};
+ghost use Rattle.td_catalog.specs.WrittenDefinitions.{DefinitionsAreWritten};
 ghost use Rattle.td_check.specs.OperatorTypes.{attribute_type};
 ghost use Rattle.td_engine.specs.Assignments.{assignment_value, chosen_for, of_heading};
 ghost use Rattle.td_engine.specs.Assignments.{relation_for, setting_attributes, setting_names};
@@ -15,7 +16,6 @@ ghost use Rattle.td_engine.specs.code.Plannable.{IsPlannableSource};
 ghost use Rattle.td_eval.specs.OperatorValues.{on_relation, truth_value};
 ghost use Rattle.td_eval.specs.code.Sights.{tuples_in_hand, world_in};
 ghost use Rattle.td_eval.specs.TreeValues.{value_of, values_in_tuples};
-ghost use Rattle.td_eval.specs.ValueTypes.{DefinitionsAreWritten};
 ghost use Rattle.td_plan.specs.PlansOf.{PartsMeetRulesIn, scope_in};
 ghost use Rattle.td_tree.specs.Outcomes.{Answers, Outcome, Valued, gathered, with_value};
 ghost use Rattle.td_tree.specs.code.TreeViews.{assignment_view, named_view, tree_view};

@@ -30,6 +30,7 @@ pub mod VirtualValues
 pub mod WalkedAttributes
 pub mod WalkedColumns
 pub mod WalkedExtension
+pub mod WalkedItems
 pub mod WalkedLists
 pub mod WalkedSelections
 pub mod WalkedSettings

@@ -5,7 +5,6 @@ pub mod MetConstraints
 pub mod OperatorValues
 pub mod ReachedRelvars
 pub mod TreeNumbers
-pub mod TreeTexts
 pub mod TreeValues
 pub mod UnfailingValues
 pub mod ValueLaws

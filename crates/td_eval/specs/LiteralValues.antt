@@ -8,9 +8,10 @@ use Rattle.td_eval.specs.DatabaseWorlds.{constraint_value, world_of, world_of_ty
 use Rattle.td_eval.specs.OperatorValues.{components_of}
 use Rattle.td_eval.specs.TreeValues.{value_of}
 use Rattle.td_eval.specs.ValueLaws.{HasLater}
-use Rattle.td_eval.specs.ValueTypes.{AreComponentsOf, ConstraintsAreWritten}
+use Rattle.td_eval.specs.ValueTypes.{AreComponentsOf}
 use Rattle.td_eval.specs.Worlds.{World, selector_outcome}
 use Rattle.td_tree.specs.Outcomes.{Valued}
+use Rattle.td_types.specs.TypeListLaws.{ConstraintsAreWritten}
 use Rattle.td_types.specs.TypeLists.{DeclaredType}
 use Rattle.td_types.specs.Types.{Type'}
 use Rattle.td_value.specs.KnownValues.{HasType}

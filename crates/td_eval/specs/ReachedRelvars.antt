@@ -3,10 +3,10 @@ use Rattle.std.specs.Prelude.{◌≡◌, ℕ, false, List, [], ◌∷◌, ◌++�
 use Rattle.td_catalog.specs.Database.{BaseRelvar, Database, VirtualRelvar, base_named, database_scope}
 use Rattle.td_catalog.specs.NamedRelvars.{names_any}
 use Rattle.td_catalog.specs.TypedDatabases.{IsTyped}
+use Rattle.td_catalog.specs.WrittenDefinitions.{DefinitionsAreWritten}
 use Rattle.td_eval.specs.DatabaseWorlds.{world_of}
 use Rattle.td_eval.specs.TreeValues.{value_of}
 use Rattle.td_eval.specs.ValueLaws.{IsChecked}
-use Rattle.td_eval.specs.ValueTypes.{DefinitionsAreWritten}
 use Rattle.td_tree.specs.Trees.{Tree}
 use Rattle.td_types.specs.Headings.{has_name}
 

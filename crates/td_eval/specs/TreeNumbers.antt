@@ -5,7 +5,7 @@ use Rattle.td_tree.specs.declared.operator.Level.{Level}
 use Rattle.td_tree.specs.Grammar.{Spelling}
 use Rattle.td_tree.specs.Lexemes.{Lexeme}
 use Rattle.td_tree.specs.Numbers.{numeral_limit}
-use Rattle.td_tree.specs.Trees.{Literal, number, text, truth, table_dee, table_dum, Tree, literal, name, parentheses, prefix, extract, restriction, binary, compare, postfix, select, component, measure, aggregate, relation, headed_relation, tuple, extend, extend_setting, summarize_per, summarize_by, choice, Trees, none, more, NamedTrees, none_named, more_named, Summaries, no_summaries, counted, summed}
+use Rattle.td_tree.specs.Trees.{Literal, number, text, truth, table_dee, table_dum, Tree, literal, name, parentheses, prefix, extract, restriction, binary, compare, postfix, select, component, measure, aggregate, relation, headed_relation, tuple, extend, extend_setting, summarize_per, summarize_by, choice, binding, Trees, none, more, NamedTrees, none_named, more_named, Summaries, no_summaries, counted, summed}
 
 abbrev pub IsInRangeLiteral : Literal → Type 0
 IsInRangeLiteral (number minus magnitude) = magnitude ≤ numeral_limit minus
@@ -37,6 +37,7 @@ abbrev mutual
   HasNumbers (summarize_per operand per items) = HasNumbers operand × HasNumbers per × ItemsHaveNumbers items
   HasNumbers (summarize_by operand by items) = HasNumbers operand × ItemsHaveNumbers items
   HasNumbers (choice condition consequent alternative) = HasNumbers condition × HasNumbers consequent × HasNumbers alternative
+  HasNumbers (binding items result) = PartsHaveNumbers items × HasNumbers result
 
   pub HaveNumbers : Trees → Type 0
   HaveNumbers none = ⊤

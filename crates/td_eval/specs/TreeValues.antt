@@ -9,7 +9,7 @@ use Rattle.td_eval.specs.OperatorValues.{comparison_value, component_value, exte
 use Rattle.td_eval.specs.Worlds.{World, name_value, selector_outcome, with_tuples}
 use Rattle.td_group.specs.declared.aggregates.Agg.TheVariants as asked
 use Rattle.td_tree.specs.Outcomes.{Outcome, Valued, with_both, with_value}
-use Rattle.td_tree.specs.Trees.{Tree, literal, name, parentheses, prefix, extract, restriction, binary, compare, postfix, select, component, measure, aggregate, relation, headed_relation, tuple, extend, extend_setting, summarize_per, summarize_by, choice, Trees, none, more, NamedTrees, none_named, more_named, Summaries, no_summaries, counted, summed, project}
+use Rattle.td_tree.specs.Trees.{Tree, literal, name, parentheses, prefix, extract, restriction, binary, compare, postfix, select, component, measure, aggregate, relation, headed_relation, tuple, extend, extend_setting, summarize_per, summarize_by, choice, binding, Trees, none, more, NamedTrees, none_named, more_named, Summaries, no_summaries, counted, summed, project}
 use Rattle.td_types.specs.TypeLists.{heading_meant}
 use Rattle.td_value.specs.Values.{Val, Tuple}
 
@@ -49,6 +49,14 @@ abbrev mutual
       (summary_value (λ h. summary_attributes (entered_with h (with_tuples w.scope s)) items) (items_in_tuples w s items) v))
   value_of w s (choice condition consequent alternative) =
       with_value (value_of w s condition) (λ v. on_truth v (λ b. if b then value_of w s consequent else value_of w s alternative))
+  value_of w s (binding items result) = value_where_bound w s items (λ inner. value_of w inner result)
+
+  -- the value of what stands where the values of WITH's items are in scope, each as a tuple of one attribute. An item has its
+  -- value where those before it are in scope, and the first that has none decides
+  pub value_where_bound : World → List Tuple → NamedTrees → (List Tuple → Outcome Val) → Outcome Val
+  value_where_bound w s none_named inside = inside s
+  value_where_bound w s (more_named n value rest) inside =
+      with_value (value_of w s value) (λ v. value_where_bound w (((n, v) ∷ []) ∷ s) rest inside)
 
   -- the values of expressions, in the order written
   pub argument_values : World → List Tuple → Trees → Outcome (List Val)

@@ -3,17 +3,19 @@ use Rattle.std.specs.Prelude.{◌≡◌, ℕ, List, None, Some, IsTrue}
 use Rattle.std.specs.List.{AllByRecursion}
 use Rattle.td_catalog.specs.Database.{BaseRelvar, Database, base_named}
 use Rattle.td_catalog.specs.TypedDatabases.{AreTyped, IsTyped}
+use Rattle.td_catalog.specs.WrittenDefinitions.{DefinitionsAreWritten}
 use Rattle.td_check.specs.CannotFail.{cannot_fail}
 use Rattle.td_check.specs.declared.scope.Kind.TheVariants as kinds
 use Rattle.td_check.specs.Scopes.{KnownRelvar, Scope, known_relvar}
 use Rattle.td_check.specs.StaticTypes.{type_of}
 use Rattle.td_eval.specs.DatabaseWorlds.{with_other, world_of}
 use Rattle.td_eval.specs.TreeValues.{value_of}
-use Rattle.td_eval.specs.ValueTypes.{AreComponentsOf, DefinitionsAreWritten, IsOfType, IsTypedTuple, IsWritten, KeepsScope}
+use Rattle.td_eval.specs.ValueTypes.{AreComponentsOf, IsOfType, IsTypedTuple, KeepsScope}
 use Rattle.td_eval.specs.Worlds.{World, selector_outcome, with_tuples}
 use Rattle.td_eval.specs.TreeNumbers.{HasNumbers}
 use Rattle.td_tree.specs.Outcomes.{Valued}
 use Rattle.td_tree.specs.Trees.{Tree}
+use Rattle.td_tree.specs.WrittenTrees.{IsWritten}
 use Rattle.td_types.specs.TypeLists.{DeclaredType, declared_at}
 use Rattle.td_types.specs.Types.{Type'}
 use Rattle.td_value.specs.Values.{Val, IsRelation, Relation, Tuple}

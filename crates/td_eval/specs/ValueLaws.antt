@@ -4,21 +4,23 @@ use Rattle.std.specs.List.{AllByRecursion, Contains}
 use Rattle.std.specs.List.Sorted.{IsPermutation}
 use Rattle.td_catalog.specs.Database.{BaseRelvar, Database, NamedConstraint, VirtualRelvar, base_named, database_scope, knows_relvar, relvar_names, virtual_named, with_base, with_constraint, with_declared, with_virtual, without_constraint, without_relvar, without_type}
 use Rattle.td_catalog.specs.TypedDatabases.{IsTyped}
+use Rattle.td_catalog.specs.WrittenDefinitions.{DefinitionsAreWritten}
 use Rattle.td_check.specs.Mentions.{relvars_in, types_in}
 use Rattle.td_check.specs.Scopes.{Scope}
-use Rattle.td_check.specs.StaticLaws.{AgreeAt, AgreeOn, GivesNames, IsScope, UsersAllIn, is_other}
+use Rattle.td_check.specs.StaticLaws.{AgreeAt, AgreeOn, IsScope, UsersAllIn, is_other}
 use Rattle.td_check.specs.StaticTypes.{type_of}
 use Rattle.td_eval.specs.AggregateValues.{Summand, aggregated_value, summarized_value}
 use Rattle.td_eval.specs.DatabaseWorlds.{world_of}
 use Rattle.td_eval.specs.OperatorValues.{extended_by_settings, extended_value, is_true, of_relation, restricted_value, truth_value}
 use Rattle.td_eval.specs.TreeValues.{value_of}
-use Rattle.td_eval.specs.ValueTypes.{AreComponentsOf, DefinitionsAreWritten, IsTypedTuple, IsWritten, KeepsScope}
+use Rattle.td_eval.specs.ValueTypes.{AreComponentsOf, IsTypedTuple, KeepsScope}
 use Rattle.td_eval.specs.Worlds.{World, selector_outcome, with_tuples}
 use Rattle.td_group.specs.Aggregates.{aggregate}
 use Rattle.td_group.specs.declared.aggregates.Agg.{Agg}
 use Rattle.td_tree.specs.declared.cause.Cause.{Cause}
 use Rattle.td_tree.specs.Outcomes.{Has, Outcome, Valued, Refused, gathered, least, with_value}
 use Rattle.td_tree.specs.Trees.{Attributes, Tree, postfix, summarize_per, summarize_by, Summaries, project}
+use Rattle.td_tree.specs.WrittenTrees.{GivesNames, IsWritten}
 use Rattle.td_types.specs.Headings.{are_distinct, have_no_common}
 use Rattle.td_types.specs.TypeLists.{DeclaredType, declared_at}
 use Rattle.td_types.specs.Types.{Attribute, Heading, Type', pack}

@@ -2,13 +2,13 @@
 -- causes are this project's own).
 use Rattle.std.specs.Prelude.{◌≡◌, ℕ, List, ◌++◌, Some, Result, Ok, Err, ⊤}
 use Rattle.std.specs.List.{AllByRecursion}
-use Rattle.td_catalog.specs.Database.{BaseRelvar, Database, VirtualRelvar, base_named}
+use Rattle.td_catalog.specs.Database.{BaseRelvar, Database, base_named}
 use Rattle.td_catalog.specs.TypedDatabases.{AreTyped, IsTyped}
+use Rattle.td_catalog.specs.WrittenDefinitions.{DefinitionsAreWritten}
 use Rattle.td_check.specs.Scopes.{KnownRelvar, Scope, known_relvar}
-use Rattle.td_check.specs.StaticLaws.{GivesNames, IsScope}
+use Rattle.td_check.specs.StaticLaws.{IsScope}
 use Rattle.td_check.specs.StaticTypes.{type_of}
 use Rattle.td_eval.specs.DatabaseWorlds.{with_other, world_of}
-use Rattle.td_eval.specs.TreeTexts.{HasTexts}
 use Rattle.td_eval.specs.TreeValues.{value_of}
 use Rattle.td_eval.specs.Worlds.{World, with_tuples}
 use Rattle.td_tree.specs.declared.cause.Cause.{Cause}
@@ -17,6 +17,7 @@ use Rattle.td_tree.specs.declared.fault.Fault.{Fault}
 use Rattle.td_tree.specs.declared.fault.Fault.TheVariants as faults
 use Rattle.td_tree.specs.Outcomes.{Causes, Has, Outcome, Valued, Refused}
 use Rattle.td_tree.specs.Trees.{Tree}
+use Rattle.td_tree.specs.WrittenTrees.{IsWritten}
 use Rattle.td_types.specs.TypeLists.{DeclaredType, declared_at}
 use Rattle.td_types.specs.Types.{Type', pack, user}
 use Rattle.td_types.specs.Types as forms
@@ -76,25 +77,12 @@ pub record KeepsScope (w : World) (scope : Scope) : Type 0 where
       → (f : List Val → Outcome Val) × (w.selector n ≡ Some f)
       × ((vs : List Val) → AreComponentsOf scope.types d vs → KeepsType scope.types (Valued (user n)) (f vs))
 
--- the names that an expression gives are names, and its texts are UTF-8
-abbrev pub IsWritten : Tree → Type 0
-IsWritten e = GivesNames e × HasTexts e
-
 -- an expression that has a type has a value of that type, or such causes
 abbrev pub ValuesKeepTypes : Type 0
 ValuesKeepTypes =
     (w : World) (scope : Scope) (s : List Tuple) (e : Tree) → KeepsScope w scope
     → AllByRecursion (IsTypedTuple scope.types) s → IsWritten e
     → KeepsType scope.types (type_of (with_tuples scope s) e) (value_of w s e)
-
--- so is the constraint of each type
-abbrev pub ConstraintsAreWritten : List DeclaredType → Type 0
-ConstraintsAreWritten = AllByRecursion (λ d. (e : Tree) → d.constraint ≡ Some e → IsWritten e)
-
--- so are the constraints of the types of a database and the expressions of its virtual relvars
-pub record DefinitionsAreWritten (db : Database) : Type 0 where
-  pub constraints : ConstraintsAreWritten db.types
-  pub virtuals : AllByRecursion (λ (v : VirtualRelvar). IsWritten v.tree) db.virtuals
 
 -- the world of a typed database is such a world
 abbrev pub TypedDatabasesKeepScopes : Type 0

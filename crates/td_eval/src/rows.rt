@@ -1,5 +1,5 @@
 //! What an expression gives of each row.
-ghost use Rattle.std.specs.Prelude.{◌≡◌, ℕ, IfOk, List, map};
+ghost use Rattle.std.specs.Prelude.{◌≡◌, ◌∷◌, [], ℕ, IfOk, List, map};
 ghost use Rattle.td_eval.specs.code.NewColumns.{column_view, with_values};
 ghost use Rattle.td_eval.specs.OperatorValues.{truth_value, value_of_type};
 ghost use Rattle.td_tree.specs.Outcomes.{Answers, Outcome, Valued, with_value};
@@ -61,6 +61,15 @@ pub fn named_value(name: &Name, answer: Result<Value, Fault>) -> Result<(Name, V
 {
     let value = answer?;
     Ok((name.try_clone()?, value))
+}
+
+/// The tuple whose one attribute has the name and the value.
+pub fn tuple_of_one(alloc: Global, name: &Name, value: Value) -> Result<Tuple, Fault>
+    ensures { Answers (λ t. t) result (Valued ((name.now, value) ∷ [])) }
+{
+    let mut entries = Vec::with_capacity(alloc, 1)?;
+    entries.push((name.try_clone()?, value))?;
+    Tuple::new(alloc, entries)
 }
 
 /// The new attribute with the values that were answered.

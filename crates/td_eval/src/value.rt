@@ -21,6 +21,7 @@ ghost use Rattle.td_tree.specs.code.TreeViews.{named_view, tree_view, trees_view
 ghost use Rattle.td_tree.specs.Trees.{choice};
 ghost use Rattle.td_types.specs.code.Views.{pairs_view, type_view};
 
+mod bound;
 mod summaries;
 
 use crate::env::Env;
@@ -39,6 +40,7 @@ use crate::rows::{
     copies_of, copies_of_lent, named_column, named_value, truth_of, value_of_its_type,
 };
 use crate::sight::Sight;
+use crate::value::bound::bound;
 use crate::value::summaries::summary;
 use std::alloc::Global;
 use td_algebra::extension::Column;
@@ -158,6 +160,7 @@ fn value_of<B: Body>(sight: &Sight<'_, B>, tuples: &[Tuple], expr: &Expr) -> Res
                 items,
             )
         }
+        Expr::With(items, inner) => bound(sight, tuples, items, inner),
     }
 }
 

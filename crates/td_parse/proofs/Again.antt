@@ -1,5 +1,5 @@
 -- What reading an expression of a level comes to: its tree, or the level's loop with the tree on the left.
-use Rattle.std.proofs.Common.{◌≡◌, ℕ, zero, suc, ◌+◌, ◌<◌, ◌≤◌, false, List, [], ◌∷◌, ◌++◌, Some, None, refl, ap, ◌∙◌, append_assoc, arith, max}
+use Rattle.std.proofs.Common.{◌≡◌, ℕ, zero, suc, ◌+◌, ◌<◌, ◌≤◌, true, false, List, [], ◌∷◌, ◌++◌, Some, None, refl, ap, ◌∙◌, append_assoc, arith, max}
 use Rattle.std.proofs.lemmas.Bool.{le-leb}
 use Rattle.td_tree.specs.declared.keyword.Keyword.TheVariants as k
 use Rattle.td_tree.specs.declared.operator.Comparison.{Comparison}
@@ -14,7 +14,7 @@ use Rattle.td_tree.specs.Grammar.{tighter, comparison_word, BeginsOtherwise, Pos
 use Rattle.td_tree.specs.Heights.{height}
 use Rattle.td_tree.specs.Lexemes.{Lexeme, keyword, sign}
 use Rattle.td_tree.specs.Lexemes as lexeme
-use Rattle.td_parse.specs.Reading.{Read, postfixes, postfix_expression, extract_expression, prefix_expression, unary_expression, operations, chain, multiplicative, additive, relational, compared_to, comparison_expression, negation_expression, conjunction, disjunction, restriction, by_level, read}
+use Rattle.td_parse.specs.Reading.{Read, postfixes, postfix_expression, extract_expression, prefix_expression, unary_expression, operations, chain, multiplicative, additive, relational, compared_to, comparison_expression, negation_expression, conjunction, disjunction, restriction, binding, by_level, read}
 use Rattle.td_parse.specs.ReadingOperators.{link_level, link_words, linked_tree, link_at, prefix_at, extraction_at, postfix_at}
 use Rattle.td_parse.specs.ReadingSteps.{◌>>=◌, expect}
 use Rattle.td_tree.specs.Trees as tree
@@ -50,6 +50,7 @@ abbrev Chained : Level → List Lexeme → Tree → Type 0
 Chained level = Goes (tighter level) (at level) (loop_at level)
 
 abbrev pub Reads : Level → List Lexeme → Tree → Type 0
+Reads levels.Binding xs t = Gets levels.Binding (at levels.Binding) xs t
 Reads levels.Restriction xs t = Chained levels.Restriction xs t
 Reads levels.Disjunction xs t = Chained levels.Disjunction xs t
 Reads levels.Conjunction xs t = Chained levels.Conjunction xs t
@@ -84,6 +85,7 @@ height_pos (tree.extend_setting a settings) = omega arith
 height_pos (tree.summarize_per a b items) = omega arith
 height_pos (tree.summarize_by a by items) = omega arith
 height_pos (tree.choice a b c) = omega arith
+height_pos (tree.binding items a) = omega arith
 
 -- ---- where a loop ends
 
@@ -111,6 +113,7 @@ chain_ended : (level : Level) (xs : List Lexeme) (t : Tree) → ((s : List Lexem
 chain_ended level xs t tight none = ended (tighter level) level (at level) (loop_at level) xs t tight (λ d k s lt st. stop level d k t s lt (none s st))
 
 gets_at : (level : Level) (xs : List Lexeme) (t : Tree) → Reads level xs t → Gets level (at level) xs t
+gets_at levels.Binding xs t r = r
 gets_at levels.Restriction xs t r = chain_ended levels.Restriction xs t (λ s st. st.1) (λ s st. st.0) r
 gets_at levels.Disjunction xs t r = chain_ended levels.Disjunction xs t (λ s st. st.1) (λ s st. st.0) r
 gets_at levels.Conjunction xs t r = chain_ended levels.Conjunction xs t (λ s st. st.1) (λ s st. st.0) r
@@ -168,9 +171,13 @@ multiplicative_chain : (d : ℕ) (ts : List Lexeme) → at levels.Multiplicative
 unfolding by_level multiplicative
 multiplicative_chain d ts = refl
 
+binding_alone : (xs : List Lexeme) (t : Tree) → Begins levels.Restriction xs → Gets levels.Restriction (at levels.Restriction) xs t → Reads levels.Binding xs t
+unfolding by_level binding
+binding_alone xs t b r = record { gets = λ d s lt st. let e : expect (keyword k.With) (xs ++ s) ≡ None = begins_no (keyword k.With) false true xs s refl b in rw e (r.gets d s lt st) }
+
 negation_alone : (xs : List Lexeme) (t : Tree) → Begins levels.Comparison xs → Gets levels.Comparison (at levels.Comparison) xs t → Reads levels.Negation xs t
 unfolding by_level negation_expression
-negation_alone xs t b r = record { gets = λ d s lt st. let e : expect (keyword k.Not) (xs ++ s) ≡ None = begins_no (keyword k.Not) false xs s refl b in rw e (r.gets d s lt st) }
+negation_alone xs t b r = record { gets = λ d s lt st. let e : expect (keyword k.Not) (xs ++ s) ≡ None = begins_no (keyword k.Not) false false xs s refl b in rw e (r.gets d s lt st) }
 
 comparison_alone : (xs : List Lexeme) (t : Tree) → Gets levels.Relational (at levels.Relational) xs t → Reads levels.Comparison xs t
 unfolding by_level comparison_expression
@@ -190,6 +197,7 @@ unfolding by_level postfix_expression
 postfixed_alone xs t r = record { goes = λ d s lt st. (suc d, omega (arith, height_pos t), rw (r.gets d s lt st) refl) }
 
 pub alone : (level : Level) (xs : List Lexeme) (t : Tree) → Begins (tighter level) xs → Plain (tighter level) xs → Reads (tighter level) xs t → Reads level xs t
+alone levels.Binding xs t b p r = binding_alone xs t b (gets_at levels.Restriction xs t r)
 alone levels.Restriction xs t b p r = chain_alone levels.Restriction xs t restriction_chain (gets_at levels.Disjunction xs t r)
 alone levels.Disjunction xs t b p r = chain_alone levels.Disjunction xs t disjunction_chain (gets_at levels.Conjunction xs t r)
 alone levels.Conjunction xs t b p r = chain_alone levels.Conjunction xs t conjunction_chain (gets_at levels.Negation xs t r)

@@ -1,4 +1,4 @@
--- Primary expressions that are spelled are read again.
+-- Primary expressions that are spelled are read again, and so are names by WITH.
 use Rattle.std.proofs.Common.{◌≡◌, ℕ, ◌≤◌, true, false, List, [], ◌∷◌, ◌++◌, Some, None, refl, append_assoc, arith}
 use Rattle.std.proofs.lemmas.Bool.{le-leb}
 use Rattle.td_tree.specs.declared.keyword.Keyword.TheVariants as k
@@ -14,7 +14,7 @@ use Rattle.td_tree.specs.Lexemes.{Lexeme, keyword, sign}
 use Rattle.td_tree.specs.Lexemes as lexeme
 use Rattle.td_tree.specs.Lists.{with_braces, with_parentheses}
 use Rattle.td_tree.specs.Numbers.{numeral_limit}
-use Rattle.td_parse.specs.Reading.{numeral, negative, part, addition, setting, summary, summaries, name_expression, component_of, measure_expression, aggregate_expression, headed_relation, elements, relation, tuple, extension_adding, extension_setting, extension, summary_per, summary_by, summarize_expression, choice, primary_of_word, primary_of_sign, primary, by_level, read}
+use Rattle.td_parse.specs.Reading.{numeral, negative, part, addition, setting, summary, summaries, name_expression, component_of, measure_expression, aggregate_expression, headed_relation, elements, relation, tuple, extension_adding, extension_setting, extension, summary_per, summary_by, summarize_expression, choice, primary_of_word, primary_of_sign, primary, binding_expression, binding, by_level, read}
 use Rattle.td_parse.specs.Reading as reading
 use Rattle.td_parse.specs.ReadingOperators.{call_at}
 use Rattle.td_parse.specs.ReadingSteps.{expect, read_up_to, in_parentheses_read, listed_to}
@@ -61,11 +61,11 @@ empty_call_reads n = record { gets = λ d s lt st. rw (empty_again (read d loose
 -- a list up to what closes it
 list_closed : (xs s : List Lexeme) (all : Trees) (d : ℕ) → ListAgain xs all → ExpressionsSpelling xs all → highest all ≤ d → listed_to close (read d loosest) (xs ++ (close ∷ s)) ≡ Some (tree_items all, s)
 list_closed xs s all d r p lt =
-    listed_again (read d loosest) Ends xs (tree_items all) close parenthesis_closes (r.reads d lt) s (close_stops s) (begins_no close true xs (close ∷ s) refl (expressions_begin p))
+    listed_again (read d loosest) Ends xs (tree_items all) close parenthesis_closes (r.reads d lt) s (close_stops s) (begins_no close true true xs (close ∷ s) refl (expressions_begin p))
 
 list_braced : (xs s : List Lexeme) (all : Trees) (d : ℕ) → ListAgain xs all → ExpressionsSpelling xs all → highest all ≤ d → listed_to close_brace (read d loosest) (xs ++ (close_brace ∷ s)) ≡ Some (tree_items all, s)
 list_braced xs s all d r p lt =
-    listed_again (read d loosest) Ends xs (tree_items all) close_brace brace_closes (r.reads d lt) s (close_brace_stops s) (begins_no close_brace true xs (close_brace ∷ s) refl (expressions_begin p))
+    listed_again (read d loosest) Ends xs (tree_items all) close_brace brace_closes (r.reads d lt) s (close_brace_stops s) (begins_no close_brace true true xs (close_brace ∷ s) refl (expressions_begin p))
 
 pub call_reads : (n : Text) (xs : List Lexeme) (all : Trees) → ListAgain xs all → ExpressionsSpelling xs all → Reads levels.Primary (lexeme.name n ∷ with_parentheses xs) (tree.select n all)
 unfolding by_level primary name_expression
@@ -263,4 +263,20 @@ choice_reads xs ys zs a b c p q r = record {
       let second : List Lexeme = ys ++ (keyword k.Else ∷ third) in
       let regroup : (xs ++ (keyword k.Then ∷ (ys ++ (keyword k.Else ∷ (zs ++ (keyword k.End ∷ (keyword k.If ∷ []))))))) ++ s ≡ xs ++ (keyword k.Then ∷ second) = simp append_assoc in
       rw (regroup, up_to_word (keyword k.Then) xs second a d then_is p (omega arith) (then_stops second), up_to_word (keyword k.Else) ys third b d else_is q (omega arith) (else_stops third), up_to_word (keyword k.End) zs last c d end_is r (omega arith) (end_stops last)) refl;
+}
+
+-- ---- WITH
+
+named_again : (xs ys : List Lexeme) (items : NamedTrees) (a : Tree) → SettingsAgain xs items → Again loosest ys a → (d : ℕ) (s : List Lexeme) → highest_named items ≤ d → height a ≤ d → Ends s
+    → binding_expression (read d) d (sign signs.OpenParenthesis ∷ ((xs ++ (close ∷ [])) ++ (sign signs.Colon ∷ (ys ++ s)))) ≡ Some (tree.binding items a, s)
+unfolding binding_expression expect
+named_again xs ys items a r p d s li la st =
+    let last : List Lexeme = sign signs.Colon ∷ (ys ++ s) in
+    rw (enclosed_items_again (setting (read d) d) Ends xs (named_items items) (r.reads d li) last (close_stops last), named_back items, p.reads d s la st) refl
+
+pub binding_reads : (xs ys : List Lexeme) (items : NamedTrees) (a : Tree) → SettingsAgain xs items → Again loosest ys a
+    → Reads levels.Binding (keyword k.With ∷ (with_parentheses xs ++ (sign signs.Colon ∷ ys))) (tree.binding items a)
+unfolding by_level binding expect
+binding_reads xs ys items a r p = record {
+  gets = λ d s lt st. rw (append_assoc (xs ++ (close ∷ [])) (sign signs.Colon ∷ ys) s) (named_again xs ys items a r p d s (omega arith) (omega arith) st);
 }

@@ -3,7 +3,7 @@ use Rattle.std.proofs.Common.{List, ◌∷◌, ◌++◌}
 use Rattle.td_tree.specs.declared.keyword.Keyword.TheVariants as k
 use Rattle.td_tree.specs.declared.operator.Level.{Level}
 use Rattle.td_tree.specs.declared.operator.Level.TheVariants as levels
-use Rattle.td_tree.specs.Grammar.{HeadingSpelling, Spelling, looser, restriction, between, negation, comparison, minus, closure, tuple_from, extraction, behind, literal, reference, selector, component, parentheses, measure, aggregate, headed_relation, relation, empty_tuple, tuple, extension, setting_extension, summary_per, summary_by, choice, ListSpelling, no_expressions, some_expressions, ExpressionsSpelling, last_expression, next_expression, PartsSpelling, last_part, next_part, AdditionsSpelling, last_addition, next_addition, SettingsSpelling, last_setting, next_setting, SummariesSpelling, last_count, next_count, last_sum, next_sum, loosest}
+use Rattle.td_tree.specs.Grammar.{HeadingSpelling, Spelling, looser, binding, restriction, between, negation, comparison, minus, closure, tuple_from, extraction, behind, literal, reference, selector, component, parentheses, measure, aggregate, headed_relation, relation, empty_tuple, tuple, extension, setting_extension, summary_per, summary_by, choice, ListSpelling, no_expressions, some_expressions, ExpressionsSpelling, last_expression, next_expression, PartsSpelling, last_part, next_part, AdditionsSpelling, last_addition, next_addition, SettingsSpelling, last_setting, next_setting, SummariesSpelling, last_count, next_count, last_sum, next_sum, loosest}
 use Rattle.td_tree.specs.Lexemes.{Lexeme, keyword}
 use Rattle.td_tree.specs.Lexemes as lexeme
 use Rattle.td_tree.specs.Lists.{with_braces, with_parentheses}
@@ -12,7 +12,7 @@ use Rattle.td_tree.specs.Trees.{Text, AttributeTrees, Tree, Trees, NamedTrees, S
 use Rattle.td_parse.specs.declared.operators.Link.TheVariants as links
 use Rattle.td_parse.proofs.Again.{Again, Reads, again_from, alone, link_reads, comparison_reads, negation_reads, minus_reads, closure_reads, tuple_from_reads, extraction_reads, behind_reads}
 use Rattle.td_parse.proofs.AgainParts.{ListAgain, PartsAgain, AdditionsAgain, SettingsAgain, SummariesAgain, last_expression_reads, next_expression_reads, last_part_reads, next_part_reads, last_addition_reads, next_addition_reads, last_setting_reads, next_setting_reads, last_count_reads, next_count_reads, last_sum_reads, next_sum_reads}
-use Rattle.td_parse.proofs.AgainPrimary.{literal_reads, reference_reads, empty_call_reads, call_reads, component_reads, parentheses_reads, measure_reads, aggregate_reads, empty_headed_reads, headed_reads, relation_reads, empty_tuple_reads, tuple_reads, extension_reads, setting_extension_reads, summary_per_reads, summary_by_reads, choice_reads}
+use Rattle.td_parse.proofs.AgainPrimary.{literal_reads, reference_reads, empty_call_reads, call_reads, component_reads, parentheses_reads, measure_reads, aggregate_reads, empty_headed_reads, headed_reads, relation_reads, empty_tuple_reads, tuple_reads, extension_reads, setting_extension_reads, summary_per_reads, summary_by_reads, choice_reads, binding_reads}
 use Rattle.td_parse.proofs.Begins.{spelled_begins}
 use Rattle.td_parse.proofs.BeginsPlain.{plain}
 
@@ -22,6 +22,7 @@ whole {xs} {t} r = again_from loosest xs t r
 mutual
   pub reads : {level : Level} {xs : List Lexeme} {t : Tree} → Spelling level xs t → Reads level xs t
   reads (looser {level} {xs} {a} p) = alone level xs a (spelled_begins p) (plain p) (reads p)
+  reads (binding {xs} {ys} {items} {a} p q) = binding_reads xs ys items a (settings_again p) (whole (reads q))
   reads (restriction {xs} {ys} {a} {p} q r) = link_reads links.Where xs ys a p (reads q) (reads r)
   reads (between {op} {xs} {ys} {a} {b} p q) = link_reads (links.Operator op) xs ys a b (reads p) (reads q)
   reads (negation {xs} {a} p) = negation_reads xs a (again_from levels.Negation xs a (reads p))

@@ -7,7 +7,7 @@ use Rattle.td_tree.specs.declared.operator.Level.{Level}
 use Rattle.td_tree.specs.declared.operator.Operator.{Operator}
 use Rattle.td_tree.specs.declared.operator.Operator.TheVariants as operators
 use Rattle.td_tree.specs.declared.token.Sign.TheVariants as signs
-use Rattle.td_tree.specs.Grammar.{operator_words, comparison_word, Spelling, looser, restriction, between, negation, comparison, minus, closure, tuple_from, extraction, behind, literal, reference, selector, component, parentheses, measure, aggregate, headed_relation, relation, empty_tuple, tuple, extension, setting_extension, summary_per, summary_by, choice, LiteralSpelling, number_literal, minus_literal, text_literal, true_literal, false_literal, dee_literal, dum_literal, PostfixSpelling, projection, renamings, renamings_in_braces, grouping, wrapping, open_grouping, open_wrapping, ungrouping, unwrapping, AttributeListSpelling, only_names, all_but_names, ExpressionsSpelling, last_expression, next_expression, HeadingSpelling, empty_heading, AttributesSpelling, last_attribute, next_attribute, TypeSpelling, integer_type, char_type, boolean_type, user_type, relation_type, tuple_type}
+use Rattle.td_tree.specs.Grammar.{operator_words, comparison_word, Spelling, looser, binding, restriction, between, negation, comparison, minus, closure, tuple_from, extraction, behind, literal, reference, selector, component, parentheses, measure, aggregate, headed_relation, relation, empty_tuple, tuple, extension, setting_extension, summary_per, summary_by, choice, LiteralSpelling, number_literal, minus_literal, text_literal, true_literal, false_literal, dee_literal, dum_literal, PostfixSpelling, projection, renamings, renamings_in_braces, grouping, wrapping, open_grouping, open_wrapping, ungrouping, unwrapping, AttributeListSpelling, only_names, all_but_names, ExpressionsSpelling, last_expression, next_expression, HeadingSpelling, empty_heading, AttributesSpelling, last_attribute, next_attribute, TypeSpelling, integer_type, char_type, boolean_type, user_type, relation_type, tuple_type}
 use Rattle.td_tree.specs.Grammar as grammar
 use Rattle.td_tree.specs.Lexemes.{Lexeme, keyword, sign}
 use Rattle.td_tree.specs.Lexemes as lexeme
@@ -78,6 +78,7 @@ avoids_literal what dum_literal = avoids_word what _ _
 
 pub avoids : (what : Lexeme → Bool) → NeverFollows what → {level : Level} {xs : List Lexeme} {t : Tree} → Spelling level xs t → Avoids what xs
 avoids what h (looser p) = avoids what h p
+avoids what h (binding p q) = avoids_word what _ _
 avoids what h (restriction {xs} {ys} p q) = avoids_before what (keyword k.Where) xs ys h.condition (avoids what h p)
 avoids what h (between {op} {xs} {ys} p q) = avoids_between what op xs ys h (avoids what h p)
 avoids what h (negation p) = avoids_word what _ _
@@ -214,7 +215,7 @@ arguments_called p s = rw ((list_avoids is_assign no_assign_follows p).falls (si
 pub elements_no_heading : {xs : List Lexeme} {all : Trees} → ExpressionsSpelling xs all → (s : List Lexeme) → heading_at (sign signs.OpenBrace ∷ (xs ++ (sign signs.CloseBrace ∷ s))) ≡ false
 unfolding heading_at expect
 elements_no_heading {xs} p s =
-    let none : expect (sign signs.CloseBrace) (xs ++ (sign signs.CloseBrace ∷ s)) ≡ None = begins_no (sign signs.CloseBrace) true xs (sign signs.CloseBrace ∷ s) refl (expressions_begin p) in
+    let none : expect (sign signs.CloseBrace) (xs ++ (sign signs.CloseBrace ∷ s)) ≡ None = begins_no (sign signs.CloseBrace) true true xs (sign signs.CloseBrace ∷ s) refl (expressions_begin p) in
     rw (none, (list_avoids begins_type no_type_follows p).falls (sign signs.CloseBrace ∷ s) refl) refl
 
 type_begins : (n : Text) {xs : List Lexeme} {t : TypeTree} → TypeSpelling xs t → (s : List Lexeme) → name_and begins_type (lexeme.name n ∷ (xs ++ s)) ≡ true

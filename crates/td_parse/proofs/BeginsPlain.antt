@@ -10,7 +10,7 @@ use Rattle.td_tree.specs.declared.operator.Measure.TheVariants as measures
 use Rattle.td_tree.specs.declared.operator.Operator.{Operator}
 use Rattle.td_tree.specs.declared.operator.Operator.TheVariants as operators
 use Rattle.td_tree.specs.declared.token.Sign.TheVariants as signs
-use Rattle.td_tree.specs.Grammar.{tighter, level_of, measure_word, aggregate_word, Spelling, looser, restriction, between, negation, comparison, minus, closure, tuple_from, extraction, behind, literal, reference, selector, component, parentheses, measure, aggregate, headed_relation, relation, empty_tuple, tuple, extension, setting_extension, summary_per, summary_by, choice, LiteralSpelling, number_literal, minus_literal, text_literal, true_literal, false_literal, dee_literal, dum_literal, PostfixSpelling, projection, renamings, renamings_in_braces, grouping, wrapping, open_grouping, open_wrapping, ungrouping, unwrapping, AttributeListSpelling, only_names, all_but_names}
+use Rattle.td_tree.specs.Grammar.{tighter, level_of, measure_word, aggregate_word, Spelling, looser, binding, restriction, between, negation, comparison, minus, closure, tuple_from, extraction, behind, literal, reference, selector, component, parentheses, measure, aggregate, headed_relation, relation, empty_tuple, tuple, extension, setting_extension, summary_per, summary_by, choice, LiteralSpelling, number_literal, minus_literal, text_literal, true_literal, false_literal, dee_literal, dum_literal, PostfixSpelling, projection, renamings, renamings_in_braces, grouping, wrapping, open_grouping, open_wrapping, ungrouping, unwrapping, AttributeListSpelling, only_names, all_but_names}
 use Rattle.td_tree.specs.Grammar as grammar
 use Rattle.td_tree.specs.Lexemes.{Lexeme, keyword, sign}
 use Rattle.td_tree.specs.Lexemes as lexeme
@@ -34,6 +34,7 @@ Plain _ xs = Unit {0}
 plain_looser : (level : Level) (xs : List Lexeme) → Plain (tighter level) xs → Plain level xs
 plain_looser levels.Postfixed xs h = h
 plain_looser levels.Primary xs h = h
+plain_looser levels.Binding xs h = tt
 plain_looser levels.Restriction xs h = tt
 plain_looser levels.Disjunction xs h = tt
 plain_looser levels.Conjunction xs h = tt
@@ -146,6 +147,7 @@ plain_if xs = record { no_prefix = λ s. refl; no_extraction = λ s st. refl }
 
 pub plain : {level : Level} {xs : List Lexeme} {t : Tree} → Spelling level xs t → Plain level xs
 plain (looser {level} {xs} p) = plain_looser level xs (plain p)
+plain (binding p q) = tt
 plain (restriction p q) = tt
 plain (between {op} p q) = plain_between op _
 plain (negation p) = tt

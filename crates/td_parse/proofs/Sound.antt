@@ -9,20 +9,21 @@ use Rattle.td_tree.specs.declared.operator.Level.TheVariants as levels
 use Rattle.td_parse.specs.declared.operators.Link.{Link}
 use Rattle.td_parse.specs.declared.operators.Link.TheVariants as links
 use Rattle.td_tree.specs.declared.operator.Prefix.{Prefix}
+use Rattle.td_tree.specs.declared.token.Sign.TheVariants as signs
 use Rattle.td_tree.specs.Grammar as grammar
-use Rattle.td_tree.specs.Grammar.{tighter, comparison_word, Spelling, looser, between, negation, comparison, minus, closure, tuple_from, extraction, behind}
+use Rattle.td_tree.specs.Grammar.{loosest, tighter, comparison_word, Spelling, looser, between, negation, comparison, minus, closure, tuple_from, extraction, behind}
 use Rattle.td_tree.specs.Heights.{height}
-use Rattle.td_tree.specs.Lexemes.{Lexeme, keyword}
-use Rattle.td_parse.specs.Reading.{Read, read_postfix, primary, postfixes, postfix_expression, extract_expression, prefix_expression, unary_expression, operations, chain, multiplicative, additive, relational, compared_to, comparison_expression, negation_expression, conjunction, disjunction, restriction, by_level, read}
+use Rattle.td_tree.specs.Lexemes.{Lexeme, keyword, sign}
+use Rattle.td_parse.specs.Reading.{Read, read_postfix, primary, postfixes, postfix_expression, extract_expression, prefix_expression, unary_expression, operations, chain, multiplicative, additive, relational, compared_to, comparison_expression, negation_expression, conjunction, disjunction, restriction, setting, binding_expression, binding, by_level, read}
 use Rattle.td_parse.specs.ReadingOperators.{link_level, link_words, linked_tree, link_at, comparison_at, prefix_at, extraction_at, postfix_at}
-use Rattle.td_parse.specs.ReadingSteps.{◌>>=◌, expect}
+use Rattle.td_parse.specs.ReadingSteps.{◌>>=◌, expect, in_parentheses_read, list_by_commas}
 use Rattle.td_tree.specs.Trees as tree
 use Rattle.td_tree.specs.Trees.{Tree}
 use Rattle.td_parse.proofs.SoundNames.{after_word, postfix_sound}
 use Rattle.td_parse.proofs.SoundOperators.{link_is, comparison_is, PrefixFront, minus_front, closure_front, tuple_front, prefix_is, otherwise, extraction_is}
-use Rattle.td_parse.proofs.SoundParts.{IsAt, Inside}
+use Rattle.td_parse.proofs.SoundParts.{IsAt, Inside, are_settings, setting_sound}
 use Rattle.td_parse.proofs.SoundPrimary.{primary_sound}
-use Rattle.td_parse.proofs.SoundSteps.{some, bind_some, guard_some, either_cases, pair_is, Front, glue, expect_front, Takes, Sound, retake}
+use Rattle.td_parse.proofs.SoundSteps.{some, bind_some, guard_some, either_cases, pair_is, Front, glue, expect_front, Takes, Sound, retake, enclosed_sound, separated_sound}
 
 -- ---- loops
 
@@ -194,8 +195,29 @@ module _ (inner : Level → List Lexeme → Read) (d : ℕ) (inside : Inside d i
   unfolding restriction
   restriction_sound = chain_sound levels.Restriction (disjunction inner d) disjunction_sound
 
+  named_sound : (ts after : List Lexeme) (t : Tree) (rest : List Lexeme) → expect (keyword k.With) ts ≡ Some after → binding_expression inner d after ≡ Some (t, rest) → Takes (IsAt levels.Binding (suc d)) ts t rest
+  unfolding binding_expression
+  named_sound ts after t rest word e =
+      let b = bind_some (in_parentheses_read (list_by_commas (setting inner d)) after) _ _ e in
+      let c = bind_some (expect (sign signs.Colon) b.0.1) _ _ b.2 in
+      let f = bind_some (inner loosest c.0) _ _ c.2 in
+      let l = enclosed_sound (list_by_commas (setting inner d)) (separated_sound (setting inner d) (setting_sound inner d inside)) after b.0.0 b.0.1 b.1 in
+      let q = inside loosest c.0 f.0.0 f.0.1 f.1 in
+      let all = are_settings l.spelled in
+      retake (IsAt levels.Binding (suc d)) f.2 (record { spelled = grammar.binding all.spelled q.spelled.spelled; low = omega (arith, all.low, q.spelled.low) })
+      (glue (expect_front (keyword k.With) ts after word) (glue l.parts (glue (expect_front (sign signs.Colon) b.0.1 c.0 c.1) q.parts)))
+
+  binding_sound : Sound (IsAt levels.Binding (suc d)) (binding inner d)
+  unfolding binding
+  binding_sound ts t rest e =
+      elim (either_cases _ _ (expect (keyword k.With) ts) _ e) [
+        | inl g ↦ takes_looser levels.Binding (suc d) ts t rest (restriction_sound ts t rest g.1)
+        | inr g ↦ named_sound ts g.0 t rest g.1 g.2
+      ]
+
   by_level_sound : Inside (suc d) (by_level inner d)
   unfolding by_level
+  by_level_sound levels.Binding = binding_sound
   by_level_sound levels.Restriction = restriction_sound
   by_level_sound levels.Disjunction = disjunction_sound
   by_level_sound levels.Conjunction = conjunction_sound

@@ -46,6 +46,7 @@ abbrev pub EndsRestriction : List Lexeme → Type 0
 EndsRestriction ts = (link_at levels.Restriction ts ≡ None) × EndsDisjunction ts
 
 abbrev pub Stops : Level → List Lexeme → Type 0
+Stops levels.Binding ts = EndsRestriction ts
 Stops levels.Restriction ts = EndsRestriction ts
 Stops levels.Disjunction ts = EndsDisjunction ts
 Stops levels.Conjunction ts = EndsConjunction ts
@@ -105,6 +106,7 @@ ends_restriction ts h = (no_link levels.Restriction ts h.operator, ends_disjunct
 
 -- every level ends before them
 stops_all : (level : Level) (ts : List Lexeme) → GoesOnWithNone ts → Stops level ts
+stops_all levels.Binding ts h = ends_restriction ts h
 stops_all levels.Restriction ts h = ends_restriction ts h
 stops_all levels.Disjunction ts h = ends_disjunction ts h
 stops_all levels.Conjunction ts h = ends_conjunction ts h

@@ -126,6 +126,7 @@ nothing_between least most ts lt = nothing_in least most ts lt (any_infix ts) re
 
 -- levels bind equally tightly where they are one
 same_tightness : (l level : Level) → is_between (tightness level) (tightness level) (tightness l) ≡ same_level l level
+same_tightness levels.Binding levels.Binding = refl
 same_tightness levels.Restriction levels.Restriction = refl
 same_tightness levels.Disjunction levels.Disjunction = refl
 same_tightness levels.Conjunction levels.Conjunction = refl
@@ -172,16 +173,16 @@ no_comparison_level links.Where = refl
 no_comparison_level (links.Operator operators.Or) = refl
 no_comparison_level (links.Operator _) = refl
 
-no_link_negation : (op : Link) → is_between 3 3 (tightness (link_level op)) ≡ false
+no_link_negation : (op : Link) → is_between 4 4 (tightness (link_level op)) ≡ false
 no_link_negation links.Where = refl
 no_link_negation (links.Operator operators.Or) = refl
 no_link_negation (links.Operator _) = refl
 
-no_infix_negation : (i : Infix) → is_between 3 3 (tightness (infix_level i)) ≡ false
+no_infix_negation : (i : Infix) → is_between 4 4 (tightness (infix_level i)) ≡ false
 no_infix_negation (infixes.Link op) = no_link_negation op
 no_infix_negation (infixes.Comparison op) = refl
 
-nothing_at_negation : (ts : List Lexeme) (o : ReadOf Infix) → any_infix ts ≡ o → infix_at 3 3 ts ≡ None
+nothing_at_negation : (ts : List Lexeme) (o : ReadOf Infix) → any_infix ts ≡ o → infix_at 4 4 ts ≡ None
 unfolding infix_at
 nothing_at_negation ts None e = rw e refl
 nothing_at_negation ts (Some p) e = rw (e, no_infix_negation p.0) refl
@@ -398,65 +399,71 @@ module _ (inner : Level → List Lexeme → Read) (depth : ℕ) where
   abbrev go_either : ℕ → List Lexeme → Option (List Lexeme) → Read
   go_either least ts o = either (go_from least (tightness levels.Multiplicative) (unary_expression inner depth ts)) (λ after. go_from least (tightness levels.Negation) (prefix_expression inner depth levels.Negation prefixes.Not after)) o
 
-  either_widened : (cut : ℕ) (ts : List Lexeme) (o : Option (List Lexeme)) → cut ≤ 2 → go_from cut cut (go_either (suc cut) ts o) ≡ go_either cut ts o
+  either_widened : (cut : ℕ) (ts : List Lexeme) (o : Option (List Lexeme)) → cut ≤ 3 → go_from cut cut (go_either (suc cut) ts o) ≡ go_either cut ts o
   either_widened cut ts None le = widened cut (tightness levels.Multiplicative) (omega arith) (unary_expression inner depth ts)
   either_widened cut ts (Some after) le = widened cut (tightness levels.Negation) (omega arith) (prefix_expression inner depth levels.Negation prefixes.Not after)
 
-  multiplicative_is : (ts : List Lexeme) → multiplicative inner depth ts ≡ go_from 7 7 (unary_expression inner depth ts)
+  multiplicative_is : (ts : List Lexeme) → multiplicative inner depth ts ≡ go_from 8 8 (unary_expression inner depth ts)
   unfolding multiplicative chain
   multiplicative_is ts = chain_is levels.Multiplicative refl (unary_expression inner depth ts)
 
-  additive_is : (ts : List Lexeme) → additive inner depth ts ≡ go_from 6 7 (unary_expression inner depth ts)
+  additive_is : (ts : List Lexeme) → additive inner depth ts ≡ go_from 7 8 (unary_expression inner depth ts)
   unfolding additive chain
-  additive_is ts = chain_is levels.Additive refl (multiplicative inner depth ts) ∙ (ap (go_from 6 6) (multiplicative_is ts) ∙ widened 6 7 (omega arith) (unary_expression inner depth ts))
+  additive_is ts = chain_is levels.Additive refl (multiplicative inner depth ts) ∙ (ap (go_from 7 7) (multiplicative_is ts) ∙ widened 7 8 (omega arith) (unary_expression inner depth ts))
 
-  relational_is : (ts : List Lexeme) → relational inner depth ts ≡ go_from 5 7 (unary_expression inner depth ts)
+  relational_is : (ts : List Lexeme) → relational inner depth ts ≡ go_from 6 8 (unary_expression inner depth ts)
   unfolding relational chain
-  relational_is ts = chain_is levels.Relational refl (additive inner depth ts) ∙ (ap (go_from 5 5) (additive_is ts) ∙ widened 5 7 (omega arith) (unary_expression inner depth ts))
+  relational_is ts = chain_is levels.Relational refl (additive inner depth ts) ∙ (ap (go_from 6 6) (additive_is ts) ∙ widened 6 8 (omega arith) (unary_expression inner depth ts))
 
-  compared_from : (r : Read) → (r >>= λ x. either (Some x) (λ p. compared_to inner depth x.0 p.0 p.1) (comparison_at x.1)) ≡ go_from 4 4 r
+  compared_from : (r : Read) → (r >>= λ x. either (Some x) (λ p. compared_to inner depth x.0 p.0 p.1) (comparison_at x.1)) ≡ go_from 5 5 r
   compared_from None = refl
   compared_from (Some x) = compared_turn x.0 x.1 (any_link x.1) (comparison_at x.1) refl refl
 
-  compared_is : (ts : List Lexeme) → comparison_expression inner depth ts ≡ go_from 4 7 (unary_expression inner depth ts)
+  compared_is : (ts : List Lexeme) → comparison_expression inner depth ts ≡ go_from 5 8 (unary_expression inner depth ts)
   unfolding comparison_expression
-  compared_is ts = compared_from (relational inner depth ts) ∙ (ap (go_from 4 4) (relational_is ts) ∙ widened 4 7 (omega arith) (unary_expression inner depth ts))
+  compared_is ts = compared_from (relational inner depth ts) ∙ (ap (go_from 5 5) (relational_is ts) ∙ widened 5 8 (omega arith) (unary_expression inner depth ts))
 
-  no_negation : (r : Read) → go_from 3 3 r ≡ r
+  no_negation : (r : Read) → go_from 4 4 r ≡ r
   no_negation None = refl
-  no_negation (Some x) = walk_ends 3 (suc depth) 3 x.0 x.1 (omega arith) (nothing_at_negation x.1 (any_infix x.1) refl)
+  no_negation (Some x) = walk_ends 4 (suc depth) 4 x.0 x.1 (omega arith) (nothing_at_negation x.1 (any_infix x.1) refl)
 
-  negated_from : (ts : List Lexeme) (o : Option (List Lexeme)) → either (comparison_expression inner depth ts) (λ after. prefix_expression inner depth levels.Negation prefixes.Not after) o ≡ go_either 3 ts o
-  negated_from ts None = sym (no_negation (comparison_expression inner depth ts)) ∙ (ap (go_from 3 3) (compared_is ts) ∙ widened 3 7 (omega arith) (unary_expression inner depth ts))
+  negated_from : (ts : List Lexeme) (o : Option (List Lexeme)) → either (comparison_expression inner depth ts) (λ after. prefix_expression inner depth levels.Negation prefixes.Not after) o ≡ go_either 4 ts o
+  negated_from ts None = sym (no_negation (comparison_expression inner depth ts)) ∙ (ap (go_from 4 4) (compared_is ts) ∙ widened 4 8 (omega arith) (unary_expression inner depth ts))
   negated_from ts (Some after) = sym (no_negation (prefix_expression inner depth levels.Negation prefixes.Not after))
 
-  negated_is : (ts : List Lexeme) → negation_expression inner depth ts ≡ go_either 3 ts (expect (keyword k.Not) ts)
+  negated_is : (ts : List Lexeme) → negation_expression inner depth ts ≡ go_either 4 ts (expect (keyword k.Not) ts)
   unfolding negation_expression
   negated_is ts = negated_from ts (expect (keyword k.Not) ts)
 
-  conjunction_is : (ts : List Lexeme) → conjunction inner depth ts ≡ go_either 2 ts (expect (keyword k.Not) ts)
+  conjunction_is : (ts : List Lexeme) → conjunction inner depth ts ≡ go_either 3 ts (expect (keyword k.Not) ts)
   unfolding conjunction chain
-  conjunction_is ts = chain_is levels.Conjunction refl (negation_expression inner depth ts) ∙ (ap (go_from 2 2) (negated_is ts) ∙ either_widened 2 ts (expect (keyword k.Not) ts) (omega arith))
+  conjunction_is ts = chain_is levels.Conjunction refl (negation_expression inner depth ts) ∙ (ap (go_from 3 3) (negated_is ts) ∙ either_widened 3 ts (expect (keyword k.Not) ts) (omega arith))
 
-  disjunction_is : (ts : List Lexeme) → disjunction inner depth ts ≡ go_either 1 ts (expect (keyword k.Not) ts)
+  disjunction_is : (ts : List Lexeme) → disjunction inner depth ts ≡ go_either 2 ts (expect (keyword k.Not) ts)
   unfolding disjunction chain
-  disjunction_is ts = chain_is levels.Disjunction refl (conjunction inner depth ts) ∙ (ap (go_from 1 1) (conjunction_is ts) ∙ either_widened 1 ts (expect (keyword k.Not) ts) (omega arith))
+  disjunction_is ts = chain_is levels.Disjunction refl (conjunction inner depth ts) ∙ (ap (go_from 2 2) (conjunction_is ts) ∙ either_widened 2 ts (expect (keyword k.Not) ts) (omega arith))
 
-  restriction_is : (ts : List Lexeme) → restriction inner depth ts ≡ go_either 0 ts (expect (keyword k.Not) ts)
+  restriction_is : (ts : List Lexeme) → restriction inner depth ts ≡ go_either 1 ts (expect (keyword k.Not) ts)
   unfolding restriction chain
-  restriction_is ts = chain_is levels.Restriction refl (disjunction inner depth ts) ∙ (ap (go_from 0 0) (disjunction_is ts) ∙ either_widened 0 ts (expect (keyword k.Not) ts) (omega arith))
+  restriction_is ts = chain_is levels.Restriction refl (disjunction inner depth ts) ∙ (ap (go_from 1 1) (disjunction_is ts) ∙ either_widened 1 ts (expect (keyword k.Not) ts) (omega arith))
+
+  -- the walk reads an expression of the level of WHERE
+  pub restriction_walked : (ts : List Lexeme) → restriction inner depth ts ≡ infix_expression inner depth levels.Restriction ts
+  unfolding infix_expression not_at
+  restriction_walked ts = restriction_is ts
 
   -- the walk reads an expression of a level of operators between operands
-  pub walked_is : (level : Level) (ts : List Lexeme) → (level ≡ levels.Prefixed → ⊥) → (level ≡ levels.Postfixed → ⊥) → (level ≡ levels.Primary → ⊥) → by_level inner depth level ts ≡ infix_expression inner depth level ts
+  pub walked_is : (level : Level) (ts : List Lexeme) → (level ≡ levels.Binding → ⊥) → (level ≡ levels.Prefixed → ⊥) → (level ≡ levels.Postfixed → ⊥) → (level ≡ levels.Primary → ⊥) → by_level inner depth level ts ≡ infix_expression inner depth level ts
   unfolding by_level infix_expression not_at
-  walked_is levels.Restriction ts p q r = restriction_is ts
-  walked_is levels.Disjunction ts p q r = disjunction_is ts
-  walked_is levels.Conjunction ts p q r = conjunction_is ts
-  walked_is levels.Negation ts p q r = negated_is ts
-  walked_is levels.Comparison ts p q r = compared_is ts
-  walked_is levels.Relational ts p q r = relational_is ts
-  walked_is levels.Additive ts p q r = additive_is ts
-  walked_is levels.Multiplicative ts p q r = multiplicative_is ts
-  walked_is levels.Prefixed ts p q r = absurd (p refl)
-  walked_is levels.Postfixed ts p q r = absurd (q refl)
-  walked_is levels.Primary ts p q r = absurd (r refl)
+  walked_is levels.Binding ts w p q r = absurd (w refl)
+  walked_is levels.Restriction ts w p q r = restriction_is ts
+  walked_is levels.Disjunction ts w p q r = disjunction_is ts
+  walked_is levels.Conjunction ts w p q r = conjunction_is ts
+  walked_is levels.Negation ts w p q r = negated_is ts
+  walked_is levels.Comparison ts w p q r = compared_is ts
+  walked_is levels.Relational ts w p q r = relational_is ts
+  walked_is levels.Additive ts w p q r = additive_is ts
+  walked_is levels.Multiplicative ts w p q r = multiplicative_is ts
+  walked_is levels.Prefixed ts w p q r = absurd (p refl)
+  walked_is levels.Postfixed ts w p q r = absurd (q refl)
+  walked_is levels.Primary ts w p q r = absurd (r refl)

@@ -10,7 +10,7 @@ use Rattle.td_tree.specs.declared.operator.Prefix.TheVariants as prefixes
 use Rattle.td_tree.specs.declared.operator.Style.TheVariants as styles
 use Rattle.td_tree.specs.declared.token.Sign.TheVariants as signs
 use Rattle.td_tree.specs.Grammar as grammar
-use Rattle.td_tree.specs.Grammar.{height_limit, Spelling, IsExpression, looser, between, negation, minus, comparison, behind, literal, reference, component, setting_extension, last_setting, renaming, renamings_in_braces, number_literal, minus_literal, loosest}
+use Rattle.td_tree.specs.Grammar.{height_limit, Spelling, IsExpression, looser, binding, between, negation, minus, comparison, behind, literal, reference, component, setting_extension, last_setting, next_setting, renaming, renamings_in_braces, number_literal, minus_literal, loosest}
 use Rattle.td_tree.specs.Heights.{height}
 use Rattle.td_tree.specs.Keywords.{keyword_of}
 use Rattle.td_tree.specs.Lexemes.{Lexeme, keyword, sign}
@@ -21,6 +21,7 @@ use Rattle.td_tree.specs.Pieces.{sign_at, sign_goes_on, opens, goes_on, word_kin
 use Rattle.td_tree.specs.Prints.{print}
 use Rattle.td_tree.specs.Statements.{tokens}
 use Rattle.td_tree.specs.TokenLexemes.{lexemes}
+use Rattle.td_parse.specs.Reading as reads
 use Rattle.td_parse.specs.Reading.{read, by_level, restriction, disjunction, conjunction, negation_expression, comparison_expression, compared_to, relational, additive, multiplicative, chain, operations, unary_expression, postfix_expression, postfixes, primary, numeral}
 use Rattle.td_parse.specs.ReadingOperators.{link_at, comparison_at, prefix_at, extraction_at, postfix_at}
 use Rattle.td_parse.specs.ReadingSteps.{expect}
@@ -70,7 +71,7 @@ as_restriction p = looser (looser (looser (looser (looser (looser p)))))
 
 -- a restriction as a whole expression
 as_whole : {xs : List Lexeme} {t : Tree} → Spelling levels.Restriction xs t → Spelling loosest xs t
-as_whole p = p
+as_whole p = looser p
 
 whole_sum : {xs : List Lexeme} {t : Tree} → Spelling levels.Additive xs t → Spelling loosest xs t
 whole_sum p = as_whole (as_restriction p)
@@ -172,6 +173,45 @@ extended_worked = record {
   printed = refl;
 }
 
+-- ---- with (X := 1, Y := X) : Y
+
+abbrev named : Tree
+named = tree.binding (tree.more_named (codes "X") (tree.literal (tree.number false 1)) (tree.more_named (codes "Y") (tree.name (codes "X")) tree.none_named)) (tree.name (codes "Y"))
+
+x_named : Spelling levels.Primary (lexeme.name (codes "X") ∷ []) (tree.name (codes "X"))
+x_named = reference
+
+y_named : Spelling levels.Primary (lexeme.name (codes "Y") ∷ []) (tree.name (codes "Y"))
+y_named = reference
+
+-- names for values; the items are no nodes
+pub named_worked : IsWorked (codes "with (X := 1, Y := X) : Y") named 2 (codes "WITH ( X := 1 , Y := X ) : Y")
+unfolding computing
+named_worked = record {
+  spelled = record { spelled = binding (next_setting (whole_sum (as_sum one)) (last_setting (whole_sum (as_sum x_named)))) (whole_sum (as_sum y_named)); low = omega arith };
+  height_is = refl;
+  printed = refl;
+}
+
+-- ---- extend with (X := R) : X : {A := 1}
+
+abbrev extended_names : Tree
+extended_names =
+    tree.extend_setting (tree.binding (tree.more_named (codes "X") (tree.name (codes "R")) tree.none_named) (tree.name (codes "X")))
+    (tree.more_named (codes "A") (tree.literal (tree.number false 1)) tree.none_named)
+
+-- WITH ends before the second ':'
+pub extended_names_worked : IsWorked (codes "extend with (X := R) : X : {A := 1}") extended_names 3 (codes "EXTEND WITH ( X := R ) : X : { A := 1 }")
+unfolding computing
+extended_names_worked = record {
+  spelled = record {
+    spelled = whole_sum (as_sum (setting_extension (binding (last_setting (whole_sum (as_sum r_named))) (whole_sum (as_sum x_named))) (last_setting (whole_sum (as_sum one)))));
+    low = omega arith;
+  };
+  height_is = refl;
+  printed = refl;
+}
+
 -- ---- R d_union S rename {A as B}
 
 abbrev a_to_b : List Renaming
@@ -196,7 +236,7 @@ renamed_worked = record {
 
 -- `unfolding reading` lets `refl` compute what is read
 unfoldable reading : Unit {0}
-unfolding read by_level restriction disjunction conjunction negation_expression comparison_expression compared_to relational additive multiplicative chain operations unary_expression postfix_expression postfixes primary numeral expect link_at comparison_at prefix_at extraction_at postfix_at
+unfolding read by_level reads.binding reads.binding_expression restriction disjunction conjunction negation_expression comparison_expression compared_to relational additive multiplicative chain operations unary_expression postfix_expression postfixes primary numeral expect link_at comparison_at prefix_at extraction_at postfix_at
 reading = tt
 
 chained : List Lexeme

@@ -373,12 +373,25 @@ module _ (inner : Level → List Lexeme → Read) (depth : ℕ) where
   unfoldable pub disjunction : List Lexeme → Read
   disjunction = chain levels.Disjunction conjunction
 
-  -- e, by WHERE
+  -- w, by WHERE
   unfoldable pub restriction : List Lexeme → Read
   restriction = chain levels.Restriction disjunction
 
+  -- after WITH
+  unfoldable pub binding_expression : List Lexeme → Read
+  binding_expression ts = do
+    items ← in_parentheses_read (list_by_commas setting) ts
+    after ← expect (sign signs.Colon) items.1
+    a ← expression after
+    Some (tree.binding (named_from items.0) a.0, a.1)
+
+  -- e: WITH and what it names, or w
+  unfoldable pub binding : List Lexeme → Read
+  binding ts = either (restriction ts) (λ after. binding_expression after) (expect (keyword k.With) ts)
+
   -- an expression of this level
   unfoldable pub by_level : Level → List Lexeme → Read
+  by_level levels.Binding = binding
   by_level levels.Restriction = restriction
   by_level levels.Disjunction = disjunction
   by_level levels.Conjunction = conjunction

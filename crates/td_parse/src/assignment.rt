@@ -10,7 +10,7 @@ use crate::cursor::{Cursor, SYNTAX};
 use crate::grammar::{Grammar, LOOSEST, MAX_HEIGHT};
 use crate::levels;
 use crate::names::name;
-use crate::steps::{item_closed_by, pair_of};
+use crate::steps::pair_of;
 use std::alloc::Global;
 use td_tree::expression::{Expr, NamedExpr};
 use td_tree::fault::Fault;
@@ -48,40 +48,32 @@ fn source(alloc: Global, tokens: &mut Cursor<'_, '_>) -> Result<Expr, Fault>
     expression(alloc, tokens)
 }
 
-/// `(name ':=' e),+`
-fn settings(alloc: Global, tokens: &mut Cursor<'_, '_>) -> Result<Vec<NamedExpr>, Fault>
+/// `'(' (name ':=' e),+ ')'`
+fn enclosed_settings(alloc: Global, tokens: &mut Cursor<'_, '_>) -> Result<Vec<NamedExpr>, Fault>
     ensures { Moves (λ v. map named_part_view v.items) result tokens.new
-        (reading.settings tokens.old) }
+        (in_parentheses_read reading.settings tokens.old) }
 {
     let settings = Grammar {
         alloc,
         depth: MAX_HEIGHT,
         inner: levels::expression,
     }
-    .settings(tokens)?;
+    .enclosed_settings(tokens)?;
     Ok(settings.into_items())
 }
 
-/// `'(' (name ':=' e),+ ')'`
-#[tactic(auto, unfolding(crate::specs::ReadingSteps::in_parentheses_read, crate::specs::ReadingSteps::read_up_to))]
-fn enclosed_settings(alloc: Global, tokens: &mut Cursor<'_, '_>) -> Result<Vec<NamedExpr>, Fault>
-    ensures { Moves (λ v. map named_part_view v.items) result tokens.new
-        (in_parentheses_read reading.settings tokens.old) }
-{
-    tokens.expect_sign(Sign::OpenParenthesis)?;
-    let settings = settings(alloc, tokens)?;
-    item_closed_by(settings, Sign::CloseParenthesis, tokens)
-}
-
 /// `'{' (name ':=' e),+ '}'`
-#[tactic(auto, unfolding(crate::specs::ReadingSteps::in_braces_read, crate::specs::ReadingSteps::read_up_to))]
 fn braced_settings(alloc: Global, tokens: &mut Cursor<'_, '_>) -> Result<Vec<NamedExpr>, Fault>
     ensures { Moves (λ v. map named_part_view v.items) result tokens.new
         (in_braces_read reading.settings tokens.old) }
 {
-    tokens.expect_sign(Sign::OpenBrace)?;
-    let settings = settings(alloc, tokens)?;
-    item_closed_by(settings, Sign::CloseBrace, tokens)
+    let settings = Grammar {
+        alloc,
+        depth: MAX_HEIGHT,
+        inner: levels::expression,
+    }
+    .braced_settings(tokens)?;
+    Ok(settings.into_items())
 }
 
 /// `'(' (name ':=' e),+ ')'` or `':' '{' (name ':=' e),+ '}'`

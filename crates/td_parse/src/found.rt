@@ -381,6 +381,19 @@ impl Found {
         Ok(Found { tree, height })
     }
 
+    /// `WITH (A := v, ..) : e`
+    #[tactic(auto, using(crate::proofs::Views::named_from_of, td_tree::proofs::code_lemmas::Rows::binding_is))]
+    pub fn binding(alloc: Global, items: NamedParts, value: Found) -> Result<Found, AllocError>
+        ensures { IfOk result
+            (λ e. tree_view e
+            ≡ trees.binding (named_from (map named_part_view items)) (tree_view value)) }
+    {
+        let height = items.height.max(value.height).saturating_add(1);
+        let value = box_of(alloc, value.tree)?;
+        let tree = Expr::With(items.items, value);
+        Ok(Found { tree, height })
+    }
+
     /// `IF c THEN a ELSE b END IF`
     pub fn choice(
         alloc: Global,

@@ -19,7 +19,7 @@ use td_tree::operator::Level;
 pub const MAX_HEIGHT: u16 = 400;
 
 /// The level of a whole expression.
-pub const LOOSEST: Level = Level::Restriction;
+pub const LOOSEST: Level = Level::Binding;
 
 /// The rules for an expression that is at most one higher than `depth`.
 #[derive(Clone, Copy)]

@@ -12,10 +12,12 @@ use crate::found::Found;
 use crate::grammar::Grammar;
 use crate::operators::{extraction, negation, next_infix, prefix, tighter};
 use crate::postfix::{begins_postfix, postfix};
-use crate::steps::{item_if, pair_of};
+use crate::steps::{item_closed_by, item_if, pair_of};
 use std::alloc::Global;
 use td_tree::fault::Fault;
+use td_tree::keyword::Keyword;
 use td_tree::operator::{Level, Prefix};
+use td_tree::token::Sign;
 
 impl<F: Fn(Global, u16, Level, &mut Cursor<'_, '_>) -> Result<Found, Fault>> Grammar<F> {
     /// Goes on with operators behind the operand.
@@ -125,6 +127,32 @@ impl<F: Fn(Global, u16, Level, &mut Cursor<'_, '_>) -> Result<Found, Fault>> Gra
         self.walk(level, Level::Multiplicative, first, tokens)
     }
 
+    /// After `WITH`.
+    #[tactic(auto, unfolding(crate::specs::Reading::binding_expression))]
+    fn binding_expression(&self, tokens: &mut Cursor<'_, '_>) -> Result<Found, Fault>
+        requires { Nests self.now.depth (F.pre self.now.inner) (F.post self.now.inner) }
+        ensures { Moves tree_view result tokens.new
+            (reading.binding_expression (read self.now.depth) self.now.depth tokens.old) }
+    {
+        let items = self.enclosed_settings(tokens)?;
+        let items = item_closed_by(items, Sign::Colon, tokens)?;
+        let (items, value) = pair_of(items, self.expression(tokens))?;
+        Ok(Found::binding(self.alloc, items, value)?)
+    }
+
+    /// `WITH` and what it names, or an expression without it.
+    #[tactic(auto, unfolding(crate::specs::Reading::binding), using(crate::proofs::Walks::restriction_walked))]
+    fn binding(&self, tokens: &mut Cursor<'_, '_>) -> Result<Found, Fault>
+        requires { Nests self.now.depth (F.pre self.now.inner) (F.post self.now.inner) }
+        ensures { Moves tree_view result tokens.new
+            (reading.binding (read self.now.depth) self.now.depth tokens.old) }
+    {
+        if tokens.keyword(Keyword::With) {
+            return self.binding_expression(tokens);
+        }
+        self.infix_expression(Level::Restriction, tokens)
+    }
+
     /// An expression of this level.
     #[tactic(auto, unfolding(crate::specs::Reading::by_level))]
     pub fn by_level(&self, level: Level, tokens: &mut Cursor<'_, '_>) -> Result<Found, Fault>
@@ -133,6 +161,7 @@ impl<F: Fn(Global, u16, Level, &mut Cursor<'_, '_>) -> Result<Found, Fault>> Gra
             (reading.by_level (read self.now.depth) self.now.depth level tokens.old) }
     {
         match level {
+            Level::Binding => self.binding(tokens),
             Level::Prefixed => self.unary_expression(tokens),
             Level::Postfixed => self.postfix_expression(tokens),
             Level::Primary => self.primary(tokens),

@@ -163,7 +163,7 @@ impl<F: Fn(Global, u16, Level, &mut Cursor<'_, '_>) -> Result<Found, Fault>> Gra
 
     /// `(name ':=' e),+`
     #[tactic(auto, unfolding(crate::specs::ReadingSteps::list_by_commas, crate::specs::ReadingSteps::separated_from))]
-    pub fn settings(&self, tokens: &mut Cursor<'_, '_>) -> Result<NamedParts, Fault>
+    fn settings(&self, tokens: &mut Cursor<'_, '_>) -> Result<NamedParts, Fault>
         requires { Nests self.now.depth (F.pre self.now.inner) (F.post self.now.inner) }
         ensures { Moves (map named_part_view) result tokens.new
             (list_by_commas (reading.setting (read self.now.depth) self.now.depth) tokens.old) }
@@ -178,6 +178,20 @@ impl<F: Fn(Global, u16, Level, &mut Cursor<'_, '_>) -> Result<Found, Fault>> Gra
             }
         }
         Err(SYNTAX)
+    }
+
+    /// `'(' (name ':=' e),+ ')'`
+    #[tactic(auto, unfolding(crate::specs::ReadingSteps::in_parentheses_read, crate::specs::ReadingSteps::read_up_to))]
+    pub fn enclosed_settings(&self, tokens: &mut Cursor<'_, '_>) -> Result<NamedParts, Fault>
+        requires { Nests self.now.depth (F.pre self.now.inner) (F.post self.now.inner) }
+        ensures { Moves (map named_part_view) result tokens.new
+            (in_parentheses_read (list_by_commas (reading.setting (read self.now.depth)
+            self.now.depth))
+            tokens.old) }
+    {
+        tokens.expect_sign(Sign::OpenParenthesis)?;
+        let items = self.settings(tokens)?;
+        item_closed_by(items, Sign::CloseParenthesis, tokens)
     }
 
     /// `'{' (name ':=' e),+ '}'`

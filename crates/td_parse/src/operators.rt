@@ -130,6 +130,7 @@ pub fn tighter(level: Level) -> Level
     ensures { result ≡ grammar.tighter level }
 {
     match level {
+        Level::Binding => Level::Restriction,
         Level::Restriction => Level::Disjunction,
         Level::Disjunction => Level::Conjunction,
         Level::Conjunction => Level::Negation,
@@ -148,17 +149,18 @@ fn tightness(level: Level) -> u8
     ensures { result ≡ walking.tightness level }
 {
     match level {
-        Level::Restriction => 0,
-        Level::Disjunction => 1,
-        Level::Conjunction => 2,
-        Level::Negation => 3,
-        Level::Comparison => 4,
-        Level::Relational => 5,
-        Level::Additive => 6,
-        Level::Multiplicative => 7,
-        Level::Prefixed => 8,
-        Level::Postfixed => 9,
-        Level::Primary => 10,
+        Level::Binding => 0,
+        Level::Restriction => 1,
+        Level::Disjunction => 2,
+        Level::Conjunction => 3,
+        Level::Negation => 4,
+        Level::Comparison => 5,
+        Level::Relational => 6,
+        Level::Additive => 7,
+        Level::Multiplicative => 8,
+        Level::Prefixed => 9,
+        Level::Postfixed => 10,
+        Level::Primary => 11,
     }
 }
 

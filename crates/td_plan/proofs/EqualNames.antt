@@ -3,14 +3,14 @@ use Rattle.std.proofs.Common.{◌≡◌, ◌∙◌, ap, sym, refl, ℕ, Bool, tr
 use Rattle.std.specs.Prelude.{option_map, if◌then◌else◌}
 use Rattle.std.specs.List.{Contains}
 use Rattle.std.proofs.lemmas.List.Elements.{Contains-append_left, Contains-append_right}
-use Rattle.td_check.specs.OperatorTypes.{aggregate_item, aggregate_type, choice_type, comparison_type, component_type, count_item, extension_type, extracted_type, headed_type, listed_type, measure_type, mismatch, named_part, operator_type, over_relation, per_heading, postfix_type, prefix_type, selector_type, setting_type, summary_type, tuple_type, restriction_type, known_or}
+use Rattle.td_check.specs.OperatorTypes.{aggregate_item, aggregate_type, choice_type, comparison_type, component_type, count_item, extension_type, extracted_type, headed_type, listed_type, measure_type, misfit, mismatch, named_part, operator_type, over_relation, per_heading, postfix_type, prefix_type, selector_type, setting_type, summary_type, tuple_type, restriction_type, known_or}
 use Rattle.td_check.specs.Scopes.{Scope, innermost, known_relvar}
-use Rattle.td_check.specs.StaticTypes.{items_of, named_types, both_types, type_of, types_of, with_items}
+use Rattle.td_check.specs.StaticTypes.{items_of, named_types, both_types, type_of, type_where_bound, types_of, with_items}
 use Rattle.td_check.specs.WrittenNames.{names_in, names_in_all, names_in_items, names_in_named}
 use Rattle.td_group.specs.declared.aggregates.Agg.TheVariants as asked
 use Rattle.td_tree.specs.declared.cause.Cause.TheVariants as causes
 use Rattle.td_tree.specs.Outcomes.{Outcome, Valued, with_both, with_value}
-use Rattle.td_tree.specs.Trees.{Tree, literal, name, parentheses, prefix, extract, restriction, binary, compare, postfix, select, component, measure, aggregate, relation, headed_relation, tuple, extend, extend_setting, summarize_per, summarize_by, choice, Trees, none, more, NamedTrees, none_named, more_named, Summaries, no_summaries, counted, summed, project}
+use Rattle.td_tree.specs.Trees.{Tree, literal, name, parentheses, prefix, extract, restriction, binary, compare, postfix, select, component, measure, aggregate, relation, headed_relation, tuple, extend, extend_setting, summarize_per, summarize_by, choice, binding, Trees, none, more, NamedTrees, none_named, more_named, Summaries, no_summaries, counted, summed, project}
 use Rattle.td_types.specs.Headings.{has_attribute, has_name}
 use Rattle.td_types.specs.TypeLists.{heading_meant}
 use Rattle.td_types.specs.Types.{Type', Heading, pack, type_at}
@@ -23,7 +23,7 @@ use Rattle.td_algebra.proofs.Lists.{contains_first}
 use Rattle.td_algebra.proofs.Relations.{member_headed}
 use Rattle.td_eval.specs.AggregateValues.{aggregated_value, asked_of, summary_attributes, summary_value}
 use Rattle.td_eval.specs.OperatorValues.{comparison_value, component_value, extended_by_settings, extended_value, extracted_value, headed_value, listed_value, measure_value, of_truth, on_relation, on_truth, operator_value, postfix_value, prefix_value, restricted_value, tuple_from}
-use Rattle.td_eval.specs.TreeValues.{argument_values, entry_values, items_in_tuples, value_of, values_in_tuples}
+use Rattle.td_eval.specs.TreeValues.{argument_values, entry_values, items_in_tuples, value_of, value_where_bound, values_in_tuples}
 use Rattle.td_eval.specs.Worlds.{World, innermost_value, known_outcome, selector_outcome}
 use Rattle.td_plan.specs.EqualitiesOfNames.{NamesAreWhatIsAsked, ValuesDependOnNames}
 
@@ -109,6 +109,22 @@ module _ (scope : Scope) where
         λ i. with_both (types_same g h condition (first (names_in condition) (names_in consequent ++ names_in alternative) same) i)
         (both_types (types_same g h consequent (first (names_in consequent) (names_in alternative) rest) i) (types_same g h alternative (second (names_in consequent) (names_in alternative) rest) i))
         (λ c both. choice_type c both.0 both.1)
+    types_same g h (binding items result) same =
+        bound_type_same [] g h items (names_in result) (λ inner. type_of inner result) (λ g h k. types_same g h result k)
+        (first (names_in_named items) (names_in result) same) (second (names_in_named items) (names_in result) same)
+
+    -- where that holds of what stands behind the items
+    bound_type_same : (before : List (List ℕ)) (g h : List Heading) (es : NamedTrees) (names : List (List ℕ)) (inside : Scope → Outcome Type')
+        → ((g h : List Heading) → HaveOneType g h names → inside (among scope g) ≡ inside (among scope h))
+        → HaveOneType g h (names_in_named es) → HaveOneType g h names
+        → type_where_bound before (among scope g) es inside ≡ type_where_bound before (among scope h) es inside
+    bound_type_same before g h none_named names inside law alike same = law g h same
+    bound_type_same before g h (more_named n e es) names inside law alike same =
+        λ i. with_value (types_same g h e (first (names_in e) (names_in_named es) alike) i)
+        (λ t. if has_name n before then misfit
+        else bound_type_same (n ∷ before) (((n, t) ∷ []) ∷ g) (((n, t) ∷ []) ∷ h) es names inside law
+        (entered_type ((n, t) ∷ []) g h (names_in_named es) (second (names_in e) (names_in_named es) alike))
+        (entered_type ((n, t) ∷ []) g h names same) i)
 
     all_types_same : (g h : List Heading) (es : Trees) → HaveOneType g h (names_in_all es) → types_of (among scope g) es ≡ types_of (among scope h) es
     all_types_same g h none same = refl
@@ -215,6 +231,21 @@ module _ (w : World) where
         let rest = second (names_in condition) (names_in consequent ++ names_in alternative) same in
         λ i. with_value (values_same s u condition (first (names_in condition) (names_in consequent ++ names_in alternative) same) i)
         (λ v. on_truth v (λ b. if b then values_same s u consequent (first (names_in consequent) (names_in alternative) rest) i else values_same s u alternative (second (names_in consequent) (names_in alternative) rest) i))
+    values_same s u (binding items result) same =
+        bound_value_same s u items (names_in result) (λ inner. value_of w inner result) (λ s u k. values_same s u result k)
+        (first (names_in_named items) (names_in result) same) (second (names_in_named items) (names_in result) same)
+
+    -- where that holds of what stands behind the items
+    bound_value_same : (s u : List Tuple) (es : NamedTrees) (names : List (List ℕ)) (inside : List Tuple → Outcome Val)
+        → ((s u : List Tuple) → HaveOneValue s u names → inside s ≡ inside u)
+        → HaveOneValue s u (names_in_named es) → HaveOneValue s u names
+        → value_where_bound w s es inside ≡ value_where_bound w u es inside
+    bound_value_same s u none_named names inside law items_same same = law s u same
+    bound_value_same s u (more_named n e es) names inside law items_same same =
+        λ i. with_value (values_same s u e (first (names_in e) (names_in_named es) items_same) i)
+        (λ v. bound_value_same (((n, v) ∷ []) ∷ s) (((n, v) ∷ []) ∷ u) es names inside law
+        (entered_value ((n, v) ∷ []) s u (names_in_named es) (second (names_in e) (names_in_named es) items_same))
+        (entered_value ((n, v) ∷ []) s u names same) i)
 
     arguments_same : (s u : List Tuple) (es : Trees) → HaveOneValue s u (names_in_all es) → argument_values w s es ≡ argument_values w u es
     arguments_same s u none same = refl

@@ -13,7 +13,6 @@ use Rattle.td_check.specs.WrittenNames.{names_in}
 use Rattle.td_eval.proofs.law_lemmas.UnfailingTrees.{unfailing_expressions_have_values}
 use Rattle.td_eval.specs.OperatorValues.{comparison_value, of_truth}
 use Rattle.td_eval.specs.TreeValues.{value_of}
-use Rattle.td_eval.specs.ValueTypes.{IsWritten}
 use Rattle.td_eval.specs.Worlds.{World, innermost_value, known_outcome, with_tuples}
 use Rattle.td_plan.proofs.EqualNames.{values_depend_on_names}
 use Rattle.td_plan.proofs.EqualValues.{and_of_both, equality_of_one}
@@ -28,6 +27,7 @@ use Rattle.td_tree.specs.declared.operator.Operator.TheVariants as operators
 use Rattle.td_tree.specs.Outcomes.{Outcome, Valued, Refused, with_both}
 use Rattle.td_tree.specs.Trees as trees
 use Rattle.td_tree.specs.Trees.{Tree}
+use Rattle.td_tree.specs.WrittenTrees.{IsWritten}
 use Rattle.td_types.proofs.NameTests.{name_tests_tell}
 use Rattle.td_types.proofs.OutcomeLaws.{valued_is}
 use Rattle.td_types.specs.Headings.{has_attribute, has_name}

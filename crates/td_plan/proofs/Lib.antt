@@ -1,3 +1,4 @@
+pub mod BoundRuns
 pub mod CountedTruths
 pub mod EachStep
 pub mod EnteredSlots
@@ -19,6 +20,7 @@ pub mod PlacedLaws
 pub mod Places
 pub mod PlannedAnswers
 pub mod PlannedBelow
+pub mod PlannedBound
 pub mod PlannedClosed
 pub mod PlannedLists
 pub mod PlannedNames

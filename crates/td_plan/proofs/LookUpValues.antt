@@ -16,7 +16,7 @@ use Rattle.td_eval.specs.OperatorValues.{of_relation, on_relation}
 use Rattle.td_eval.specs.TreeNumbers.{HasNumbers}
 use Rattle.td_eval.specs.TreeValues.{value_of}
 use Rattle.td_eval.specs.UnfailingValues.{GivesValues}
-use Rattle.td_eval.specs.ValueTypes.{IsOfType, IsWritten, KeepsType}
+use Rattle.td_eval.specs.ValueTypes.{IsOfType, KeepsType}
 use Rattle.td_eval.specs.Worlds.{World, innermost_value, known_outcome, with_tuples}
 use Rattle.td_plan.proofs.EqualValues.{where_after_look_up}
 use Rattle.td_plan.proofs.LookUpParts.{entries_heading, entries_tuple, fixed_entries, fixed_names, fixed_plans, fixed_values_hold, part_found, part_value}
@@ -32,6 +32,7 @@ use Rattle.td_tree.specs.declared.cause.Cause.TheVariants as causes
 use Rattle.td_tree.specs.Outcomes.{Outcome, Valued, with_value}
 use Rattle.td_tree.specs.Trees as trees
 use Rattle.td_tree.specs.Trees.{Tree}
+use Rattle.td_tree.specs.WrittenTrees.{IsWritten}
 use Rattle.td_types.proofs.OutcomeLaws.{value_of_test, value_of_with, valued_is}
 use Rattle.td_types.specs.Headings.{projection}
 use Rattle.td_types.specs.code.TypeCode.{unpack_pack}

@@ -3,7 +3,7 @@ use Rattle.std.proofs.Common.{◌≡◌, ◌<◌, ◌≤◌, ◌+◌, ◌⊎◌,
 use Rattle.std.proofs.lemmas.List.{take_more}
 use Rattle.std.proofs.lemmas.List.Elements.{Contains-append_left, Contains-push_cases}
 use Rattle.std.specs.List.{Contains}
-use Rattle.td_plan.specs.code.Remembered.{AreAllAmong, AreAmong, AreAmongBut, AreBefore}
+use Rattle.td_plan.specs.code.Remembered.{AreAllAmong, AreAmong, AreAmongBefore, AreAmongBut, AreBefore}
 
 pub among_itself : (names : List ℕ) → AreAmong names names
 among_itself names = λ j c. c
@@ -42,6 +42,17 @@ module _ (slot : ℕ) where
       by_case : (j : ℕ) → Contains (take i names) j ⊎ (get_or names i 0 ≡ j) → (j ≡ slot) ⊎ Contains others j
       by_case j (inl c) = h j c
       by_case j (inr e) = subst (λ k. (k ≡ slot) ⊎ Contains others k) e there
+
+  pub before_more : (names others : List ℕ) (n : ℕ) → AreAmongBefore slot names others → AreAmongBefore slot names (others ++ (n ∷ []))
+  before_more names others n h = λ j c l. Contains-append_left others (n ∷ []) j (h j c l)
+
+  pub before_then : (names others : List ℕ) (i : ℕ) → i < length names → AreAmongBefore slot (take i names) others
+      → (get_or names i 0 < slot → Contains others (get_or names i 0)) → AreAmongBefore slot (take (i + 1) names) others
+  before_then names others i l h there = λ j c. by_case j (Contains-push_cases (take i names) (get_or names i 0) j (subst (λ ns. Contains ns j) (take_more names i 0 l) c))
+    where
+      by_case : (j : ℕ) → Contains (take i names) j ⊎ (get_or names i 0 ≡ j) → j < slot → Contains others j
+      by_case j (inl c) = h j c
+      by_case j (inr e) = subst (λ k. k < slot → Contains others k) e there
 
 pub before_next : (names : List ℕ) (reach more i : ℕ) → i < length names → AreBefore reach (take i names) → reach ≤ more → get_or names i 0 < more
     → AreBefore more (take (i + 1) names)

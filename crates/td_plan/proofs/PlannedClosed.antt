@@ -67,6 +67,7 @@ module _ (scope : Scope) (w v : World) (s u : List Tuple) (knows : KnowsTypes sc
     closed_alike (trees.summarize_per d q items) c t is = absurd c
     closed_alike (trees.summarize_by d by items) c t is = absurd c
     closed_alike (trees.choice b d e) c t is = absurd c
+    closed_alike (trees.binding items d) c t is = absurd c
 
     arguments_alike : (es : Trees) → AreClosed es → (ts : List Type') → types_of scope es ≡ Valued ts → argument_values w s es ≡ argument_values v u es
     arguments_alike trees.none c ts is = refl

@@ -3,10 +3,8 @@ use Rattle.std.proofs.Common.{◌≡◌, ◌∙◌, ◌++◌, ℕ, List, ◌∷�
 use Rattle.std.specs.List.{zip}
 use Rattle.td_check.specs.OperatorTypes.{choice_type, comparison_type, component_type, extracted_type, headed_type, listed_type, measure_type, operator_type, postfix_type, prefix_type, selector_type, tuple_type}
 use Rattle.td_check.specs.Scopes.{Scope}
-use Rattle.td_check.specs.StaticLaws.{GiveNames, PartsGiveNames}
 use Rattle.td_check.specs.StaticTypes.{named_types, both_types, type_of, types_of}
 use Rattle.td_eval.specs.OperatorValues.{headed_value, listed_value, on_truth, tuple_from}
-use Rattle.td_eval.specs.TreeTexts.{HaveTexts, PartsHaveTexts}
 use Rattle.td_eval.specs.TreeValues.{argument_values, entry_values}
 use Rattle.td_eval.specs.UnfailingValues.{GivesValues}
 use Rattle.td_eval.specs.Worlds.{World, selector_outcome}
@@ -18,6 +16,7 @@ use Rattle.td_plan.specs.PlansOf.{AreInHand, AreSlotsOf, IsPlanOfTyped, outermos
 use Rattle.td_tree.specs.Outcomes.{Outcome, Valued, Refused, gathered, with_both, with_value}
 use Rattle.td_tree.specs.Trees as trees
 use Rattle.td_tree.specs.Trees.{AttributeTrees, Tree, Trees, NamedTrees}
+use Rattle.td_tree.specs.WrittenTrees.{GiveNames, HaveTexts, PartsGiveNames, PartsHaveTexts}
 use Rattle.td_types.proofs.Meanings.{attributes_later}
 use Rattle.td_types.proofs.OutcomeLaws.{value_of_with, values_of_both}
 use Rattle.td_types.specs.Headings.{made_heading}

@@ -5,15 +5,13 @@ use Rattle.std.specs.Prelude.{nat_eq}
 use Rattle.std.proofs.lemmas.Bool.{eq-eqb}
 use Rattle.td_check.specs.OperatorTypes.{aggregate_type, item_type}
 use Rattle.td_check.specs.Scopes.{Scope, entered_with}
-use Rattle.td_check.specs.StaticLaws.{ItemsGiveNames}
 use Rattle.td_check.specs.StaticTypes.{items_of, type_of, with_items}
 use Rattle.td_check.proofs.SummaryLaws.{HeadingItems, Items}
 use Rattle.td_eval.specs.AggregateValues.{summarized_value, summary_attributes, summary_value}
 use Rattle.td_eval.specs.OperatorValues.{on_relation, postfix_value}
 use Rattle.td_eval.specs.code.Totals.{asked_by}
-use Rattle.td_eval.specs.TreeTexts.{ItemsHaveTexts}
 use Rattle.td_eval.specs.TreeValues.{items_in_tuples, value_of}
-use Rattle.td_eval.specs.ValueTypes.{IsOfType, IsWritten, KeepsType}
+use Rattle.td_eval.specs.ValueTypes.{IsOfType, KeepsType}
 use Rattle.td_eval.specs.UnfailingValues.{GivesValues}
 use Rattle.td_eval.specs.Worlds.{World, with_tuples}
 use Rattle.td_eval.proofs.law_lemmas.AlikeOutcomes.{both_alike, over_same, with_alike}
@@ -33,6 +31,7 @@ use Rattle.td_tree.specs.Outcomes.{Outcome, Valued, gathered, with_both, with_va
 use Rattle.td_tree.specs.code.TreeViews.{summaries_view}
 use Rattle.td_tree.specs.Trees as trees
 use Rattle.td_tree.specs.Trees.{Attributes, Summaries, Tree, project}
+use Rattle.td_tree.specs.WrittenTrees.{IsWritten, ItemsGiveNames, ItemsHaveTexts}
 use Rattle.td_types.proofs.Meanings.{pack_unpack}
 use Rattle.td_types.proofs.OutcomeLaws.{value_of_with, valued_is, values_of_both}
 use Rattle.td_types.specs.code.TypeCode.{unpack_pack}

@@ -6,14 +6,13 @@ use Rattle.std.proofs.lemmas.Bool.{eq-eqb}
 use Rattle.td_algebra.proofs.Members.{second_true}
 use Rattle.td_check.specs.OperatorTypes.{aggregate_type, extended_by, extension_type, over_relation, restriction_type}
 use Rattle.td_check.specs.Scopes.{Scope, entered_with}
-use Rattle.td_check.specs.StaticLaws.{HasMore, PartsGiveNames}
+use Rattle.td_check.specs.StaticLaws.{HasMore}
 use Rattle.td_check.specs.StaticTypes.{named_types, type_of}
 use Rattle.td_check.proofs.StaticLaws.{more_changes_no_parts}
 use Rattle.td_eval.specs.AggregateValues.{aggregated_value, asked_of}
 use Rattle.td_eval.specs.OperatorValues.{extended_by_settings, extended_value, on_relation, restricted_value}
-use Rattle.td_eval.specs.TreeTexts.{PartsHaveTexts}
 use Rattle.td_eval.specs.TreeValues.{value_of, values_in_tuples}
-use Rattle.td_eval.specs.ValueTypes.{IsTypedTuple, IsWritten, KeepsType}
+use Rattle.td_eval.specs.ValueTypes.{IsTypedTuple, KeepsType}
 use Rattle.td_eval.specs.UnfailingValues.{GivesValues}
 use Rattle.td_eval.specs.Worlds.{World, with_tuples}
 use Rattle.td_eval.proofs.law_lemmas.AlikeOutcomes.{over_same}
@@ -33,6 +32,7 @@ use Rattle.td_tree.specs.declared.operator.Aggregate.{Aggregate}
 use Rattle.td_tree.specs.Outcomes.{Outcome, Valued, with_value}
 use Rattle.td_tree.specs.Trees as trees
 use Rattle.td_tree.specs.Trees.{NamedTrees, Tree}
+use Rattle.td_tree.specs.WrittenTrees.{IsWritten, PartsGiveNames, PartsHaveTexts}
 use Rattle.td_types.proofs.OutcomeLaws.{value_of_test, value_of_with, valued_is, values_of_both}
 use Rattle.td_types.specs.Headings.{are_distinct, have_no_common}
 use Rattle.td_types.specs.code.TypeCode.{unpack_pack}

@@ -12,7 +12,7 @@ use Rattle.td_eval.proofs.code_lemmas.TypedTrees.{values_keep_types}
 use Rattle.td_eval.specs.OperatorValues.{of_relation}
 use Rattle.td_eval.specs.TreeValues.{value_of}
 use Rattle.td_eval.specs.UnfailingValues.{GivesValues}
-use Rattle.td_eval.specs.ValueTypes.{IsOfType, IsWritten, KeepsType}
+use Rattle.td_eval.specs.ValueTypes.{IsOfType, KeepsType}
 use Rattle.td_eval.specs.Worlds.{World, with_tuples}
 use Rattle.td_plan.proofs.EqualNames.{names_are_asked}
 use Rattle.td_plan.proofs.EqualValues.{gives_more, where_of_intersect_left, where_of_join_left, where_of_join_right, where_of_minus, where_of_times_left, where_of_times_right, where_of_union}
@@ -31,6 +31,7 @@ use Rattle.td_tree.specs.declared.operator.Operator.{Operator}
 use Rattle.td_tree.specs.declared.operator.Operator.TheVariants as operators
 use Rattle.td_tree.specs.Outcomes.{Outcome, Valued, Refused, value_if, with_both, with_value}
 use Rattle.td_tree.specs.Trees.{Tree, binary, restriction}
+use Rattle.td_tree.specs.WrittenTrees.{IsWritten}
 use Rattle.td_types.proofs.HeadingLaws.{has_attribute-names, type_at-union}
 use Rattle.td_types.proofs.NameTests.{name_tests_tell}
 use Rattle.td_types.proofs.OutcomeLaws.{value_of_test, value_of_with, valued_is, values_of_both}

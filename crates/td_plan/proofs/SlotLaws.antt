@@ -1,12 +1,12 @@
 -- The tuples in slots.
-use Rattle.std.proofs.Common.{◌≡◌, ◌∙◌, ◌<◌, ℕ, zero, suc, List, [], ◌∷◌, ◌++◌, Option, Some, None, Bool, true, false, ap, sym, refl, arith, length, map, option_map, slice_set, if◌then◌else◌}
+use Rattle.std.proofs.Common.{◌≡◌, ◌∙◌, ◌<◌, ◌≤◌, ℕ, zero, suc, List, [], ◌∷◌, ◌++◌, Option, Some, None, Bool, true, false, ap, sym, refl, arith, length, map, option_map, slice_set, take, if◌then◌else◌}
 use Rattle.std.specs.Borrow.{Bor}
-use Rattle.std.specs.Prelude.{nat_eq}
+use Rattle.std.specs.Prelude.{nat_eq, nat_lt}
 use Rattle.std.specs.List.{slice_get}
-use Rattle.std.proofs.lemmas.Bool.{eq-eqb, eqb-false, eqb-true}
+use Rattle.std.proofs.lemmas.Bool.{eq-eqb, eqb-false, eqb-true, lt-ltb, ltb-false, ltb-true}
 use Rattle.td_plan.specs.code.Hands.{cells_at, cells_lent, cells_of, slots_in, slots_lent}
 use Rattle.td_plan.specs.code.Memos.{AgreeBelow}
-use Rattle.td_plan.specs.Plans.{Slots, with_slot}
+use Rattle.td_plan.specs.Plans.{Slots, slots_before, with_slot}
 use Rattle.td_value.specs.Values.{Tuple, Val}
 
 unequal : (a b : ℕ) → (a ≡ b → ⊥) → nat_eq a b ≡ false
@@ -99,6 +99,28 @@ slots_free rows = λ i j. by_test j (nat_eq j (length rows)) refl i
     by_test : (j : ℕ) (b : Bool) → nat_eq j (length rows) ≡ b → (if nat_eq j (length rows) then [] else cells_at (slice_get rows j)) ≡ cells_at (slice_get rows j)
     by_test j true e = rw e (past_slots rows j (eqb-true j (length rows) e))
     by_test j false e = rw e refl
+
+-- ---- the slots before one
+
+taken_at : (k : ℕ) (rows : List (Option Tuple)) (j : ℕ)
+    → (j < k → cells_at (slice_get (take k rows) j) ≡ cells_at (slice_get rows j)) × (k ≤ j → cells_at (slice_get (take k rows) j) ≡ [])
+taken_at zero rows j = (λ l. absurd (omega (arith, l)), λ l. refl)
+taken_at (suc k) [] j = (λ l. refl, λ l. refl)
+taken_at (suc k) (x ∷ rows) zero = (λ l. refl, λ l. absurd (omega (arith, l)))
+taken_at (suc k) (x ∷ rows) (suc j) =
+    let h = taken_at k rows j in
+    (λ l. h.0 (omega (arith, l)), λ l. h.1 (omega (arith, l)))
+
+-- so many of the first rows
+pub slots_taken : (k : ℕ) (rows : List (Option Tuple)) → slots_in (take k rows) ≡ slots_before k (slots_in rows)
+slots_taken k rows = λ i j. by_test j (nat_lt j k) refl i
+  where
+    by_test : (j : ℕ) (b : Bool) → nat_lt j k ≡ b → cells_at (slice_get (take k rows) j) ≡ (if nat_lt j k then cells_at (slice_get rows j) else [])
+    by_test j true e = rw e ((taken_at k rows j).0 (ltb-true j k e))
+    by_test j false e = rw e ((taken_at k rows j).1 (ltb-false j k e))
+
+pub agree_before : (k : ℕ) (s : Slots) → AgreeBelow k s (slots_before k s)
+agree_before k s = λ j l. sym (ap (λ b. if b then s j else []) (lt-ltb j k l))
 
 -- ---- rows that are lent
 

@@ -6,7 +6,7 @@ use Rattle.td_plan.specs.declared.plan.step.Selector.{Selector}
 use Rattle.td_plan.specs.declared.plan.step.Selector.TheVariants as selectors
 use Rattle.td_plan.specs.declared.plan.step.Step.{Step, Row_of-Step, end_of-Step, more_of-Step, items-the_row-Step, items_hidden-the_row-Step-0}
 use Rattle.td_plan.specs.declared.plan.step.Step.TheVariants as p
-use Rattle.td_plan.specs.Plans.{PlanTrees, more, select, extend, summarize_per, summarize_by}
+use Rattle.td_plan.specs.Plans.{PlanTrees, bound, more, select, extend, summarize_per, summarize_by}
 use Rattle.td_plan.specs.code.StepViews.{selector_view, step_view, steps_row, steps_view}
 use Rattle.td_tree.specs.declared.expression.Attributes.{Attributes}
 use Rattle.td_tree.specs.code.TreeViews.{attributes_view}
@@ -42,3 +42,6 @@ pub summarize_by_is : (o : Box Step) (by : Attributes) (xs : Vec (List ℕ × Ty
     → step_view (p.SummarizeBy o by xs aggs slot v)
     ≡ summarize_by (step_view o.value) (attributes_view by) (pairs_view xs.items) aggs.items slot (steps_view v.items)
 summarize_by_is o by xs aggs slot v = ap (summarize_by (step_view o.value) (attributes_view by) (pairs_view xs.items) aggs.items slot) (steps_are v)
+
+pub bound_is : (slot : ℕ) (v : Vec Step) (b : Box Step) → step_view (p.Bound slot v b) ≡ bound slot (steps_view v.items) (step_view b.value)
+bound_is slot v b = ap (λ ps. bound slot ps (step_view b.value)) (steps_are v)

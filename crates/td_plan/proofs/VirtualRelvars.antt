@@ -4,6 +4,7 @@ use Rattle.std.specs.List.{AllByRecursion}
 use Rattle.std.specs.Prelude.{is_some}
 use Rattle.td_catalog.specs.Database.{Database, VirtualRelvar, database_scope, virtual_named}
 use Rattle.td_catalog.specs.TypedDatabases.{IsTyped}
+use Rattle.td_catalog.specs.WrittenDefinitions.{DefinitionsAreWritten}
 use Rattle.td_check.specs.Scopes.{Scope, known_relvar}
 use Rattle.td_check.specs.StaticTypes.{type_of}
 use Rattle.td_check.proofs.StaticLaws.{more_changes_nothing}
@@ -11,7 +12,6 @@ use Rattle.td_eval.specs.DatabaseWorlds.{selectors_of, world_of}
 use Rattle.td_eval.specs.TreeValues.{value_of}
 use Rattle.td_eval.specs.UnfailingValues.{GivesValues}
 use Rattle.td_eval.specs.ValueLaws.{IsChecked}
-use Rattle.td_eval.specs.ValueTypes.{DefinitionsAreWritten, IsWritten}
 use Rattle.td_eval.specs.Worlds.{World, known_outcome, selector_outcome}
 use Rattle.td_eval.proofs.law_lemmas.KnownRelvars.{NamedAt, front_has_more, fronted, known_in_more, named_at, no_base, stays_behind, virtual_at}
 use Rattle.td_eval.proofs.law_lemmas.LaterTypes.{selected_by}
@@ -27,6 +27,7 @@ use Rattle.td_plan.specs.VirtualRelvars.{VirtualRelvarsAreTheirExpressions}
 use Rattle.td_tree.specs.declared.fault.Fault.{Fault}
 use Rattle.td_tree.specs.Outcomes.{Answers, Outcome, Valued}
 use Rattle.td_tree.specs.Trees.{Tree}
+use Rattle.td_tree.specs.WrittenTrees.{IsWritten}
 use Rattle.td_types.specs.Types.{pack}
 use Rattle.td_types.specs.Types as types
 use Rattle.td_value.specs.Values.{Tuple, Val}

@@ -1,17 +1,17 @@
 -- Which slots plans name.
-use Rattle.std.proofs.Common.{◌≡◌, ◌∷◌, ◌⊎◌, inl, inr, [], List, ℕ, ap, refl, if◌then◌else◌}
-use Rattle.std.proofs.lemmas.Bool.{eq-eqb}
+use Rattle.std.proofs.Common.{◌≡◌, ◌∷◌, ◌⊎◌, inl, inr, [], List, Bool, true, false, ℕ, suc, ap, refl, if◌then◌else◌}
+use Rattle.std.proofs.lemmas.Bool.{eq-eqb, ltb-true}
 use Rattle.std.specs.List.{Contains, slice_get, zip}
-use Rattle.std.specs.Prelude.{nat_eq}
+use Rattle.std.specs.Prelude.{nat_eq, nat_lt}
 use Rattle.td_algebra.proofs.Lists.{contains_first}
 use Rattle.td_eval.specs.AggregateValues.{aggregated_value, asked_of}
-use Rattle.td_eval.specs.OperatorValues.{on_relation, on_truth, postfix_value, restricted_value}
+use Rattle.td_eval.specs.OperatorValues.{on_relation, on_truth, on_tuple, postfix_value, restricted_value}
 use Rattle.td_eval.specs.Worlds.{World, known_outcome}
 use Rattle.td_group.specs.declared.aggregates.Agg.{Agg}
 use Rattle.td_plan.specs.Plans as plans
-use Rattle.td_plan.specs.Plans.{PlanTree, PlanTrees, Slots, dyadic_value, extension_of, looked_up, monadic_value, plan_columns, plan_value, selected_value, summary_of, value_or, with_slot}
+use Rattle.td_plan.specs.Plans.{PlanTree, PlanTrees, Slots, dyadic_value, extension_of, looked_up, monadic_value, plan_columns, plan_value, plan_where_bound, selected_value, slots_before, summary_of, value_or, with_slot}
 use Rattle.td_plan.specs.code.Memos.{AgreeOn, AreOn, IsOn, IsWithin}
-use Rattle.td_plan.specs.code.Remembered.{AreAmong, AreAmongBut, AreBefore}
+use Rattle.td_plan.specs.code.Remembered.{AreAmong, AreAmongBefore, AreAmongBut, AreBefore}
 use Rattle.td_tree.specs.declared.operator.Aggregate.{Aggregate}
 use Rattle.td_tree.specs.Outcomes.{gathered, with_both, with_value}
 use Rattle.td_tree.specs.Trees.{Attributes, project}
@@ -91,3 +91,32 @@ module _ (names : List ℕ) where
     summarize_by_on p by attributes aggregates qs h i = λ w s t agree k.
         with_value (h w s t agree k) (λ v. with_value (postfix_value (project by) v)
         (summary_of attributes (zip aggregates (columns_on qs i w s t agree k)) v))
+
+  -- ---- where tuples are in slots of their own
+
+  module _ (inner : List ℕ) where
+    row_agree : (slot : ℕ) (row : List Val) (s t : Slots) → AgreeOn inner s t → AgreeOn inner (with_slot slot row s) (with_slot slot row t)
+    row_agree slot row s t agree = λ j c. ap (λ x. if nat_eq j slot then row else x) (agree j c)
+
+    where_bound_on : (w : World) (ps : PlanTrees) (q : PlanTree) → AreOn inner ps → IsOn inner q → (s t : Slots) → AgreeOn inner s t → (slot : ℕ)
+        → plan_where_bound w s slot ps (λ u. plan_value w u q) ≡ plan_where_bound w t slot ps (λ u. plan_value w u q)
+    where_bound_on w plans.none q h i s t agree slot = i w s t agree
+    where_bound_on w (plans.more p ps) q h i s t agree slot =
+        let first : IsOn inner p = λ v x y same. (let e = h v x y same in cc) in
+        let rest : AreOn inner ps = λ v x y same. (let e = h v x y same in cc) in
+        λ k. with_value (first w s t agree k)
+        (λ v. on_tuple v (λ u. where_bound_on w ps q rest i (with_slot slot (values_of u) s) (with_slot slot (values_of u) t)
+        (row_agree slot (values_of u) s t agree) (suc slot) k))
+
+    before_agree : (slot : ℕ) → AreAmongBefore slot inner names → (s t : Slots) → AgreeOn names s t
+        → AgreeOn inner (slots_before slot s) (slots_before slot t)
+    before_agree slot among s t agree = λ j c. by_test j c (nat_lt j slot) refl
+      where
+        by_test : (j : ℕ) → Contains inner j → (b : Bool) → nat_lt j slot ≡ b → (if nat_lt j slot then s j else []) ≡ (if nat_lt j slot then t j else [])
+        by_test j c true e = rw e (agree j (among j c (ltb-true j slot e)))
+        by_test j c false e = rw e refl
+
+    pub bound_on : (slot : ℕ) → AreAmongBefore slot inner names → (ps : PlanTrees) (q : PlanTree) → AreOn inner ps → IsOn inner q
+        → IsOn names (plans.bound slot ps q)
+    bound_on slot among ps q h i = λ w s t agree.
+        where_bound_on w ps q h i (slots_before slot s) (slots_before slot t) (before_agree slot among s t agree) slot

@@ -8,7 +8,7 @@ use Rattle.td_check.specs.StaticTypes.{type_of}
 use Rattle.td_eval.specs.OperatorValues.{of_truth}
 use Rattle.td_eval.specs.TreeValues.{value_of}
 use Rattle.td_eval.specs.UnfailingValues.{GivesValues}
-use Rattle.td_eval.specs.ValueTypes.{IsOfType, IsTypedTuple, IsWritten, KeepsType}
+use Rattle.td_eval.specs.ValueTypes.{IsOfType, IsTypedTuple, KeepsType}
 use Rattle.td_eval.specs.Worlds.{World}
 use Rattle.td_plan.specs.declared.rewriting.fixed.FixedValue.{FixedValue}
 use Rattle.td_plan.specs.declared.plan.step.Step.{Step}
@@ -18,6 +18,7 @@ use Rattle.td_plan.specs.PlansOf.{AreInHand, AreSlotsOf, outermost}
 use Rattle.td_plan.specs.code.StepViews.{step_view}
 use Rattle.td_tree.specs.Outcomes.{Outcome, Valued}
 use Rattle.td_tree.specs.Trees.{Tree, restriction}
+use Rattle.td_tree.specs.WrittenTrees.{IsWritten}
 use Rattle.td_types.specs.Types.{Type', Heading, pack, type_at}
 use Rattle.td_types.specs.Types as types
 use Rattle.td_value.specs.Values.{Val, Tuple, heading_of, value_at}

@@ -1,5 +1,5 @@
 -- Plans, and the values that they have: attributes are places in slots. What operators give is what expressions give.
-use Rattle.std.specs.Prelude.{ℕ, nat_eq, List, [], ◌∷◌, length, Option, Some, None, if◌then◌else◌}
+use Rattle.std.specs.Prelude.{ℕ, nat_eq, nat_lt, suc, List, [], ◌∷◌, length, Option, Some, None, if◌then◌else◌}
 use Rattle.std.specs.List.{slice_get, zip}
 use Rattle.td_eval.specs.AggregateValues.{Summand, aggregated_value, asked_of, summary_value}
 use Rattle.td_body.specs.Bodies.{agreeing}
@@ -60,6 +60,8 @@ mutual
     summarize_per : PlanTree → PlanTree → List Attribute → List Agg → ℕ → PlanTrees → PlanTree
     summarize_by : PlanTree → Attributes → List Attribute → List Agg → ℕ → PlanTrees → PlanTree
     choice : PlanTree → PlanTree → PlanTree → PlanTree
+    -- tuples, each in a slot of its own from the first number on, and what stands where they are in scope
+    bound : ℕ → PlanTrees → PlanTree → PlanTree
 
   pub data PlanTrees : Type 0 where
     none : PlanTrees
@@ -74,6 +76,10 @@ Slots = ℕ → List Val
 -- where a tuple of these values is in the slot
 abbrev pub with_slot : ℕ → List Val → Slots → Slots
 with_slot slot row s = λ j. if nat_eq j slot then row else s j
+
+-- where only the tuples in the slots before this one are in scope
+abbrev pub slots_before : ℕ → Slots → Slots
+slots_before slot s = λ j. if nat_lt j slot then s j else []
 
 -- where no tuple is in scope
 abbrev pub no_slots : Slots
@@ -155,6 +161,14 @@ abbrev mutual
   plan_value w s (choice condition consequent alternative) =
       with_value (plan_value w s condition)
       (λ v. on_truth v (λ b. if b then plan_value w s consequent else plan_value w s alternative))
+  plan_value w s (bound slot items result) = plan_where_bound w (slots_before slot s) slot items (λ inner. plan_value w inner result)
+
+  -- the value of what stands where each item's tuple is in the next slot. The first item that has none decides
+  pub plan_where_bound : World → Slots → ℕ → PlanTrees → (Slots → Outcome Val) → Outcome Val
+  plan_where_bound w s slot none inside = inside s
+  plan_where_bound w s slot (more first rest) inside =
+      with_value (plan_value w s first)
+      (λ v. on_tuple v (λ t. plan_where_bound w (with_slot slot (values_of t) s) (suc slot) rest inside))
 
   pub plan_values : World → Slots → PlanTrees → List (Outcome Val)
   plan_values w s none = []

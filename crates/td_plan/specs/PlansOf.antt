@@ -3,18 +3,17 @@ use Rattle.std.specs.Prelude.{◌≡◌, List, [], ◌∷◌, length, map, ⊤}
 use Rattle.std.specs.List.{AllByRecursion}
 use Rattle.td_catalog.specs.Database.{database_scope}
 use Rattle.td_check.specs.Scopes.{Scope, entered_with}
-use Rattle.td_check.specs.StaticLaws.{PartsGiveNames}
 use Rattle.td_check.specs.StaticTypes.{named_types, type_of}
 use Rattle.td_eval.specs.declared.env.Env.{Env}
 use Rattle.td_eval.specs.code.Sights.{tuples_in_hand}
-use Rattle.td_eval.specs.TreeTexts.{PartsHaveTexts}
 use Rattle.td_eval.specs.TreeValues.{value_of, values_in_tuples}
-use Rattle.td_eval.specs.ValueTypes.{IsTypedTuple, IsWritten}
+use Rattle.td_eval.specs.ValueTypes.{IsTypedTuple}
 use Rattle.td_eval.specs.UnfailingValues.{GivesValues}
 use Rattle.td_eval.specs.Worlds.{World, with_tuples}
 use Rattle.td_plan.specs.Plans.{PlanTree, Slots, extension_of, plan_value}
 use Rattle.td_tree.specs.Outcomes.{Outcome, Valued}
 use Rattle.td_tree.specs.Trees.{NamedTrees, Tree}
+use Rattle.td_tree.specs.WrittenTrees.{IsWritten, PartsGiveNames, PartsHaveTexts}
 use Rattle.td_types.specs.Types.{Attribute, Type'}
 use Rattle.td_value.specs.code.Views.{values_of}
 use Rattle.td_value.specs.Values.{IsRelation, Relation, Tuple, Val, heading_of}

@@ -7,7 +7,6 @@ use Rattle.td_check.specs.StaticTypes.{type_of}
 use Rattle.td_eval.specs.TreeNumbers.{HasNumbers}
 use Rattle.td_eval.specs.TreeValues.{value_of}
 use Rattle.td_eval.specs.UnfailingValues.{GivesValues}
-use Rattle.td_eval.specs.ValueTypes.{IsWritten}
 use Rattle.td_eval.specs.Worlds.{World}
 use Rattle.td_plan.specs.declared.rewriting.push.Restricted.{Restricted}
 use Rattle.td_plan.specs.declared.rewriting.push.Restricted.TheVariants as operands
@@ -15,6 +14,7 @@ use Rattle.td_plan.specs.PlansOf.{AreInHand, outermost}
 use Rattle.td_tree.specs.declared.operator.Operator.{Operator}
 use Rattle.td_tree.specs.Outcomes.{Valued}
 use Rattle.td_tree.specs.Trees.{Tree, binary, restriction}
+use Rattle.td_tree.specs.WrittenTrees.{IsWritten}
 use Rattle.td_types.specs.Types.{Type', Heading, pack}
 use Rattle.td_types.specs.Types as types
 use Rattle.td_value.specs.Values.{Tuple}

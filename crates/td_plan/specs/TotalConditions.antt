@@ -7,11 +7,12 @@ use Rattle.td_check.specs.StaticTypes.{type_of}
 use Rattle.td_eval.specs.TreeNumbers.{HasNumbers}
 use Rattle.td_eval.specs.TreeValues.{value_of}
 use Rattle.td_eval.specs.UnfailingValues.{GivesValues}
-use Rattle.td_eval.specs.ValueTypes.{IsOfType, IsTypedTuple, IsWritten}
+use Rattle.td_eval.specs.ValueTypes.{IsOfType, IsTypedTuple}
 use Rattle.td_eval.specs.Worlds.{World, with_tuples}
 use Rattle.td_plan.specs.EqualitiesOfValues.{IsTotalIn}
 use Rattle.td_tree.specs.Outcomes.{Valued}
 use Rattle.td_tree.specs.Trees.{Tree}
+use Rattle.td_tree.specs.WrittenTrees.{IsWritten}
 use Rattle.td_types.specs.Types.{pack}
 use Rattle.td_types.specs.Types as types
 use Rattle.td_value.specs.Values.{Relation, Tuple, relation_value}

@@ -2,9 +2,9 @@
 use Rattle.std.specs.Prelude.{◌≡◌, ℕ, List, [], Some}
 use Rattle.td_catalog.specs.Database.{Database, VirtualRelvar, virtual_named}
 use Rattle.td_catalog.specs.TypedDatabases.{IsTyped}
+use Rattle.td_catalog.specs.WrittenDefinitions.{DefinitionsAreWritten}
 use Rattle.td_eval.specs.DatabaseWorlds.{world_of}
 use Rattle.td_eval.specs.TreeValues.{value_of}
-use Rattle.td_eval.specs.ValueTypes.{DefinitionsAreWritten}
 
 -- a virtual relvar is defined by the virtual relvars before it alone; in a typed database it has the value of its expression where all are
 -- known and no tuple is in scope

@@ -1,3 +1,4 @@
+pub mod Bindings
 pub mod Hands
 pub mod Memos
 pub mod PlanViews

@@ -1,4 +1,5 @@
 //! How plans are made of expressions.
+pub(crate) mod bound;
 pub(crate) mod closed;
 pub(crate) mod in_tuples;
 pub(crate) mod nodes;

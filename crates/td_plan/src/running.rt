@@ -1,4 +1,5 @@
 //! How plans are run.
+mod bound;
 mod counted;
 pub(crate) mod evaluator;
 mod extended;

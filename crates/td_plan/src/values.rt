@@ -1,9 +1,9 @@
 //! The values of expressions, by plans that are made of them and run.
 ghost use Rattle.std.specs.Prelude.{◌≡◌, IsTrue, length};
+ghost use Rattle.td_catalog.specs.WrittenDefinitions.{DefinitionsAreWritten};
 ghost use Rattle.td_eval.specs.OperatorValues.{of_relation, set_value};
 ghost use Rattle.td_eval.specs.code.Sights.{tuples_in_hand, world_in};
 ghost use Rattle.td_eval.specs.TreeValues.{value_of, values_in_tuples};
-ghost use Rattle.td_eval.specs.ValueTypes.{DefinitionsAreWritten};
 ghost use Rattle.td_plan.specs.PlansOf.{MeetsRules, PartsMeetRulesIn, scope_in};
 ghost use Rattle.td_tree.specs.Outcomes.{Answers, Outcome, with_value};
 ghost use Rattle.td_tree.specs.code.TreeViews.{named_view, tree_view};

@@ -128,6 +128,7 @@ pub data LiteralSpelling : List Lexeme → Literal → Type 0 where
 
 -- the level of the operands beside an operator
 abbrev pub tighter : Level → Level
+tighter levels.Binding = levels.Restriction
 tighter levels.Restriction = levels.Disjunction
 tighter levels.Disjunction = levels.Conjunction
 tighter levels.Conjunction = levels.Negation
@@ -142,7 +143,7 @@ tighter levels.Primary = levels.Primary
 
 -- the level of a whole expression: its operators bind the loosest
 abbrev pub loosest : Level
-loosest = levels.Restriction
+loosest = levels.Binding
 
 -- the level at which an operator stands
 abbrev pub level_of : Operator → Level
@@ -211,10 +212,16 @@ BeginsOtherwise _ = ⊤
 
 mutual
   pub data Spelling : Level → List Lexeme → Tree → Type 0 where
-    -- a level includes the next: e := e1, e1 := e2 and so on
+    -- a level includes the next: e := w, w := e1, e1 := e2 and so on
     looser : {level : Level} {xs : List Lexeme} {a : Tree} → Spelling (tighter level) xs a
         → Spelling level xs a
-    -- e := e WHERE e1
+    -- e := WITH '(' set,+ ')' ':' e
+    binding : {xs ys : List Lexeme} {items : NamedTrees} {a : Tree} → SettingsSpelling xs items
+        → Spelling levels.Binding ys a
+        → Spelling levels.Binding
+        (keyword k.With ∷ (with_parentheses xs ++ (sign signs.Colon ∷ ys)))
+        (tree.binding items a)
+    -- w := w WHERE e1
     restriction : {xs ys : List Lexeme} {a p : Tree} → Spelling levels.Restriction xs a
         → Spelling levels.Disjunction ys p
         → Spelling levels.Restriction (xs ++ (keyword k.Where ∷ ys)) (tree.restriction a p)

@@ -1,7 +1,7 @@
 -- The height of a tree (this project's own): 1 for a node without parts, else one more than its
 -- highest part.
 use Rattle.std.specs.Prelude.{ℕ, zero, ◌+◌, max}
-use Rattle.td_tree.specs.Trees.{TypeTree, integer, char, boolean, user, tuple_type, relation_type, AttributeTrees, no_attributes, attribute, Tree, literal, name, parentheses, prefix, extract, restriction, binary, compare, postfix, select, component, measure, aggregate, relation, headed_relation, tuple, extend, extend_setting, summarize_per, summarize_by, choice, Trees, none, more, NamedTrees, none_named, more_named, Summaries, no_summaries, counted, summed}
+use Rattle.td_tree.specs.Trees.{TypeTree, integer, char, boolean, user, tuple_type, relation_type, AttributeTrees, no_attributes, attribute, Tree, literal, name, parentheses, prefix, extract, restriction, binary, compare, postfix, select, component, measure, aggregate, relation, headed_relation, tuple, extend, extend_setting, summarize_per, summarize_by, choice, binding, Trees, none, more, NamedTrees, none_named, more_named, Summaries, no_summaries, counted, summed}
 
 abbrev mutual
   pub type_height : TypeTree → ℕ
@@ -43,6 +43,7 @@ abbrev mutual
       max (max (height operand) (height per)) (highest_summary summaries) + 1
   height (summarize_by operand by summaries) = max (height operand) (highest_summary summaries) + 1
   height (choice condition a b) = max (max (height condition) (height a)) (height b) + 1
+  height (binding items result) = max (highest_named items) (height result) + 1
 
   -- the highest of the expressions
   pub highest : Trees → ℕ

@@ -23,4 +23,5 @@ pub mod Symbols
 pub mod TextTokens
 pub mod TokenLexemes
 pub mod Trees
+pub mod WrittenTrees
 pub mod code

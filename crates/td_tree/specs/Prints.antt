@@ -10,7 +10,7 @@ use Rattle.td_tree.specs.Grammar.{operator_words, comparison_word, measure_word,
 use Rattle.td_tree.specs.Lexemes.{Lexeme, keyword, sign, spaced_text}
 use Rattle.td_tree.specs.Lexemes as lexeme
 use Rattle.td_tree.specs.Lists.{with_braces, with_parentheses}
-use Rattle.td_tree.specs.Trees.{Text, TypeTree, integer, char, boolean, user, tuple_type, relation_type, AttributeTrees, no_attributes, attribute, Literal, number, text, truth, table_dee, table_dum, Attributes, only, all_but, Renaming, Postfix, project, rename, group, ungroup, wrap, unwrap, Tree, literal, name, parentheses, prefix, extract, restriction, binary, compare, postfix, select, component, measure, aggregate, relation, headed_relation, tuple, extend, extend_setting, summarize_per, summarize_by, choice, Trees, none, more, NamedTrees, none_named, more_named, Summaries, no_summaries, counted, summed}
+use Rattle.td_tree.specs.Trees.{Text, TypeTree, integer, char, boolean, user, tuple_type, relation_type, AttributeTrees, no_attributes, attribute, Literal, number, text, truth, table_dee, table_dum, Attributes, only, all_but, Renaming, Postfix, project, rename, group, ungroup, wrap, unwrap, Tree, literal, name, parentheses, prefix, extract, restriction, binary, compare, postfix, select, component, measure, aggregate, relation, headed_relation, tuple, extend, extend_setting, summarize_per, summarize_by, choice, binding, Trees, none, more, NamedTrees, none_named, more_named, Summaries, no_summaries, counted, summed}
 
 -- a comma before each item
 abbrev pub following : List (List Lexeme) → List Lexeme
@@ -139,6 +139,9 @@ abbrev mutual
       ++ (keyword k.Then
       ∷ (lexemes_of a
       ++ (keyword k.Else ∷ (lexemes_of b ++ (keyword k.End ∷ (keyword k.If ∷ [])))))))
+  lexemes_of (binding items result) =
+      keyword k.With
+      ∷ (with_parentheses (commas (setting_lexemes items)) ++ (sign signs.Colon ∷ lexemes_of result))
 
   -- the lexemes of each expression
   pub all_lexemes : Trees → List (List Lexeme)

@@ -78,6 +78,7 @@ mutual
     summarize_per : (operand per : Tree) (summaries : Summaries) → Tree
     summarize_by : (operand : Tree) (by : Attributes) (summaries : Summaries) → Tree
     choice : (condition consequent alternative : Tree) → Tree
+    binding : (items : NamedTrees) (result : Tree) → Tree
 
   -- expressions, in the order written
   pub data Trees : Type 0 where

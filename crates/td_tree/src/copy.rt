@@ -195,6 +195,9 @@ impl Expr {
                     box_with_copy(no),
                 )
             }
+            Expr::With(items, result) => {
+                remade::binding(copy_parts(items), box_with_copy(result))
+            }
         }
     }
 }

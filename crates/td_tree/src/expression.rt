@@ -80,6 +80,8 @@ pub enum Expr {
     SummarizePer(Box<Expr>, Box<Expr>, Vec<Summary>),
     SummarizeBy(Box<Expr>, Attributes, Vec<Summary>),
     If(Box<Expr>, Box<Expr>, Box<Expr>),
+    /// `WITH (A := e, ..) : x`: each name means its value in the later items and in the result.
+    With(Vec<NamedExpr>, Box<Expr>),
 }
 
 /// An expression with the name that its value gets.

@@ -81,6 +81,7 @@ impl Expr {
                 .height()
                 .max(consequent.height())
                 .max(alternative.height()),
+            Expr::With(items, result) => highest_named(items).max(result.height()),
         }
     }
 }

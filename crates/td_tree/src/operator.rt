@@ -7,6 +7,8 @@ use crate::keyword::Keyword;
 /// How loosely an expression binds, the loosest first.
 #[derive(Clone, Copy, Debug, PartialEq, Eq)]
 pub enum Level {
+    /// `WITH`
+    Binding,
     /// `WHERE`
     Restriction,
     /// `OR`

@@ -115,6 +115,10 @@ impl Printer {
                 let out = self.after(Keyword::If, condition)?;
                 out.after(Keyword::Then, yes)?.alternative(no)
             }
+            Expr::With(items, result) => {
+                let out = self.keyword(Keyword::With)?.bindings(items)?;
+                out.sign(Sign::Colon)?.expr(result)
+            }
         }
     }
 
@@ -239,13 +243,32 @@ impl Printer {
         ensures { Writes self result
             (sign signs.Colon ∷ with_braces (commas (setting_lexemes (named_view parts.now)))) }
     {
-        let mut out = self.sign(Sign::Colon)?.sign(Sign::OpenBrace)?;
+        let out = self.sign(Sign::Colon)?.sign(Sign::OpenBrace)?;
+        out.targets(parts)?.sign(Sign::CloseBrace)
+    }
+
+    /// Each name with `:=` and its expression, in parentheses.
+    #[cycle(printer)]
+    fn bindings(self, items: &[NamedExpr]) -> Result<Printer, AllocError>
+        ensures { Writes self result
+            (with_parentheses (commas (setting_lexemes (named_view items.now)))) }
+    {
+        let out = self.sign(Sign::OpenParenthesis)?;
+        out.targets(items)?.sign(Sign::CloseParenthesis)
+    }
+
+    /// Each name with `:=` and its expression.
+    #[cycle(printer)]
+    fn targets(self, parts: &[NamedExpr]) -> Result<Printer, AllocError>
+        ensures { Writes self result (commas (setting_lexemes (named_view parts.now))) }
+    {
+        let mut out = self;
         let mut later = false;
         for part in parts {
             out = out.comma(later)?.target(&part.name)?.expr(&part.value)?;
             later = true;
         }
-        out.sign(Sign::CloseBrace)
+        Ok(out)
     }
 
     /// `ADD` and each aggregate with `AS` and its name, in parentheses.

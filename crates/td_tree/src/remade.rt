@@ -294,3 +294,19 @@ pub fn choice(
         Err(error) => Err(error),
     }
 }
+
+/// `WITH (A := e, ..) : x`
+#[tactic(auto, using(crate::proofs::code_lemmas::Rows::binding_is))]
+pub fn binding(
+    items: Result<Vec<NamedExpr>, AllocError>,
+    value: Result<Box<Expr>, AllocError>,
+) -> Result<Expr, AllocError>
+    ensures { (is : trees.NamedTrees) → (v : trees.Tree)
+        → IfOk items (λ x. named_view x.items ≡ is) → Boxed value v
+        → Copied result (trees.binding is v) }
+{
+    match both(items, value) {
+        Ok((items, value)) => Ok(Expr::With(items, value)),
+        Err(error) => Err(error),
+    }
+}

@@ -7,9 +7,9 @@ use Rattle.td_tree.specs.declared.cause.Cause.TheVariants as causes
 use Rattle.td_tree.specs.Names.{IsName}
 use Rattle.td_tree.specs.Outcomes.{Outcome, Valued, with_value, with_both}
 use Rattle.td_tree.specs.Trees.{TypeTree, AttributeTrees, no_attributes, attribute}
+use Rattle.td_tree.specs.WrittenTrees.{HasNames, HaveNames}
 use Rattle.td_tree.specs.Trees as trees
 use Rattle.td_types.specs.Headings.{are_distinct, heading_from, made_heading, with_attribute}
-use Rattle.td_types.specs.TypeListLaws.{HasNames, HaveNames}
 use Rattle.td_types.specs.TypeLists.{AreKnown, DeclaredType, IsKnown, attributes_meant, is_declared, type_meant}
 use Rattle.td_types.specs.TypeTrees.{attribute_trees, type_tree}
 use Rattle.td_types.specs.Types.{Attrs, Attribute, Heading, IsAscending, IsHeading, IsType, Type', attr, attribute_names, boolean, char, integer, no_attrs, pack, relation, tuple, unpack, user}

@@ -1,27 +1,16 @@
 -- What holds of lists of declared types: laws.
-use Rattle.std.specs.Prelude.{◌≡◌, ◌≤◌, ◌<◌, ◌++◌, ℕ, List, Some, IsTrue, ⊤}
-use Rattle.std.specs.List.{Contains}
-use Rattle.td_tree.specs.Names.{IsName}
+use Rattle.std.specs.Prelude.{◌≡◌, ◌≤◌, ◌<◌, ◌++◌, ℕ, List, Some, IsTrue}
+use Rattle.std.specs.List.{AllByRecursion, Contains}
 use Rattle.td_tree.specs.Outcomes.{Valued}
-use Rattle.td_tree.specs.Trees.{TypeTree, AttributeTrees, no_attributes, attribute}
-use Rattle.td_tree.specs.Trees as trees
+use Rattle.td_tree.specs.Trees.{Tree, TypeTree}
+use Rattle.td_tree.specs.WrittenTrees.{HasNames, IsWritten}
 use Rattle.td_types.specs.TypeLists.{AreDeclared, DeclaredType, IsKnown, declared_at, is_declared, rank_of, type_meant}
 use Rattle.td_types.specs.TypeTrees.{type_tree}
 use Rattle.td_types.specs.Types.{Attribute, IsType, Type', user}
 
-abbrev mutual
-  -- the names in a type tree are names, at every depth
-  pub HasNames : TypeTree → Type 0
-  HasNames trees.integer = ⊤
-  HasNames trees.char = ⊤
-  HasNames trees.boolean = ⊤
-  HasNames (trees.user name) = IsName name
-  HasNames (trees.tuple_type heading) = HaveNames heading
-  HasNames (trees.relation_type heading) = HaveNames heading
-
-  pub HaveNames : AttributeTrees → Type 0
-  HaveNames no_attributes = ⊤
-  HaveNames (attribute name ty rest) = IsName name × HasNames ty × HaveNames rest
+-- the names and texts in the constraint of each type are such as every expression has
+abbrev pub ConstraintsAreWritten : List DeclaredType → Type 0
+ConstraintsAreWritten = AllByRecursion (λ d. (e : Tree) → d.constraint ≡ Some e → IsWritten e)
 
 -- what a type tree of names means is a type, and its user types are declared
 abbrev pub MeantTypesAreKnown : Type 0

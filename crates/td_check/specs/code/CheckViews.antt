@@ -1,10 +1,11 @@
 -- What the checker keeps and answers on its way through an expression.
-use Rattle.std.specs.Prelude.{ℕ, List, ◌++◌, map, Option, Some, None}
+use Rattle.std.specs.Prelude.{ℕ, List, [], ◌∷◌, ◌++◌, map, Option, Some, None, if◌then◌else◌}
 use Rattle.std.specs.Global.{Vec}
 use Rattle.td_check.specs.declared.mentioned.Mentions.{Mentions}
 use Rattle.td_check.specs.declared.rules.lists.Item.{Item}
 use Rattle.td_check.specs.code.ItemViews.{items_view}
 use Rattle.td_check.specs.OperatorTypes as own
+use Rattle.td_check.specs.code.PlaceViews.{is_bound, within_all}
 use Rattle.td_check.specs.Scopes.{Scope}
 use Rattle.td_check.specs.StaticTypes.{type_of}
 use Rattle.td_tree.specs.declared.expression.NamedExpr.{NamedExpr}
@@ -39,6 +40,18 @@ types_view both = (type_view both.0, type_view both.1)
 -- a name with the type of its expression
 abbrev pub part_found : Scope → NamedExpr → Outcome Attribute
 part_found scope part = with_value (type_of scope (tree_view part.value)) (λ t. Valued (part.name, t))
+
+-- the heading of the one attribute that an item of WITH is, where the items before it are such headings
+abbrev pub bound_found : List Heading → Scope → NamedExpr → Outcome Heading
+bound_found bounds scope item =
+    with_value (type_of (within_all bounds scope) (tree_view item.value))
+    (λ t. if is_bound item.name bounds then own.misfit else Valued ((item.name, t) ∷ []))
+
+-- those that all items are, behind such headings
+abbrev pub bounds_found : List Heading → Scope → List NamedExpr → Outcome (List Heading)
+bounds_found bounds scope [] = Valued bounds
+bounds_found bounds scope (item ∷ items) =
+    with_value (bound_found bounds scope item) (λ h. bounds_found (bounds ++ (h ∷ [])) scope items)
 
 -- an item of SUMMARIZE with the type of its expression
 abbrev pub item_found : Scope → Summary → Outcome (List ℕ × own.Item)

@@ -2,6 +2,7 @@
 use Rattle.std.proofs.Common.{◌≡◌, ◌∙◌, ◌∷◌, ℕ, true, List, [], Option, Some, None, ap, map, option_map, refl, subst, sym}
 use Rattle.std.specs.List.{AllByRecursion}
 use Rattle.td_catalog.specs.Database.{BaseRelvar, Database, base_named, database_scope}
+use Rattle.td_catalog.specs.WrittenDefinitions.{DefinitionsAreWritten}
 use Rattle.td_check.specs.OperatorTypes.{known_or, over_relation, restriction_type, same_type}
 use Rattle.td_check.specs.Scopes.{entered_with, known_relvar}
 use Rattle.td_check.specs.StatementTypes.{both_hold, condition_fits, is_target, source_fits, type_if_given}
@@ -21,13 +22,14 @@ use Rattle.td_eval.proofs.code_lemmas.KeepsRelations.{IsTypedRelation, value_fro
 use Rattle.td_eval.proofs.law_lemmas.KnownRelvars.{known_as_base}
 use Rattle.td_eval.proofs.code_lemmas.TypedRows.{rows_typed}
 use Rattle.td_eval.specs.DatabaseWorlds.{world_of}
-use Rattle.td_eval.specs.ValueTypes.{DefinitionsAreWritten, IsTypedTuple, IsWritten}
+use Rattle.td_eval.specs.ValueTypes.{IsTypedTuple}
 use Rattle.td_tree.specs.declared.cause.Cause.TheVariants as causes
 use Rattle.td_tree.specs.declared.operator.Style.{Style}
 use Rattle.td_tree.specs.declared.statement.Assignment as code
 use Rattle.td_tree.specs.Outcomes.{Valued, value_if, with_value}
 use Rattle.td_tree.specs.code.TreeViews.{assignment_view}
 use Rattle.td_tree.specs.Trees.{Assignment, NamedTrees, Tree, assign, assign_all, delete, disjoint_insert, included_delete, insert, name, restriction, update}
+use Rattle.td_tree.specs.WrittenTrees.{IsWritten}
 use Rattle.td_types.proofs.OutcomeLaws.{value_of_test, value_of_with}
 use Rattle.td_types.specs.code.TypeCode.{unpack_pack}
 use Rattle.td_types.specs.Types.{Heading, Type', boolean, pack, relation}

@@ -14,10 +14,10 @@ use Rattle.td_engine.proofs.law_lemmas.WrittenStatements.{conditions_written, de
 use Rattle.td_engine.specs.code.Carried.{IsAdmitted}
 use Rattle.td_engine.specs.Legality.{AreSpelled, IsLegal}
 use Rattle.td_engine.specs.code.Plannable.{IsPlannable, IsPlannableIf, IsWrittenIf}
-use Rattle.td_eval.specs.ValueTypes.{IsWritten}
 use Rattle.td_tree.specs.declared.cause.Cause.TheVariants as causes
 use Rattle.td_tree.specs.Outcomes.{Valued, with_value}
 use Rattle.td_tree.specs.Trees.{AttributeTrees, Text, Tree, define_base, name, write}
+use Rattle.td_tree.specs.WrittenTrees.{IsWritten}
 use Rattle.td_types.proofs.HeadingLaws.{same_name-itself}
 use Rattle.td_types.proofs.OutcomeLaws.{value_of_with, values_of_both}
 use Rattle.td_types.specs.TypeLists.{heading_meant}

@@ -26,7 +26,6 @@ use Rattle.td_tree.specs.declared.cause.Cause.{Cause}
 use Rattle.td_tree.specs.declared.fault.Fault.{Fault}
 use Rattle.td_tree.specs.declared.fault.Fault.TheVariants as faults
 use Rattle.td_types.specs.Headings.{are_distinct}
-use Rattle.td_types.specs.TypeListLaws.{HaveNames}
 use Rattle.td_types.specs.TypeLists.{AreKnown, DeclaredType, IsKnown, attributes_meant, declared_type, is_declared}
 use Rattle.td_types.specs.Types.{Attribute, Heading, IsHeading, IsType, Type', attribute_names, boolean, char, integer, pack, relation, tuple, unpack, user}
 use Rattle.td_types.proofs.Meanings.{known_attributes, pack_unpack}
@@ -36,6 +35,7 @@ use Rattle.td_engine.specs.Legality.{IsRuledVirtual, IsRanked, IsLegal}
 use Rattle.td_eval.proofs.law_lemmas.KnownRelvars.{unknown_parts, unnamed}
 use Rattle.td_eval.proofs.law_lemmas.TypedDatabases.{database_keeps}
 use Rattle.td_eval.proofs.code_lemmas.TypedValues.{type_is}
+use Rattle.td_tree.specs.WrittenTrees.{HaveNames}
 use Rattle.td_types.proofs.OutcomeLaws.{valued_is, value_of_test, value_of_with, values_of_both}
 
 -- ---- outcomes

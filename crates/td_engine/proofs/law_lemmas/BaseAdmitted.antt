@@ -16,10 +16,10 @@ use Rattle.td_eval.specs.DatabaseWorlds.{world_of}
 use Rattle.td_tree.specs.Outcomes.{Valued, with_value}
 use Rattle.td_tree.specs.Trees as trees
 use Rattle.td_tree.specs.Trees.{AttributeTrees, Text, Tree}
+use Rattle.td_tree.specs.WrittenTrees.{HaveNames}
 use Rattle.td_tree.specs.declared.cause.Cause.TheVariants as causes
 use Rattle.td_types.proofs.Meanings.{known_attributes, known_heading}
 use Rattle.td_types.proofs.OutcomeLaws.{valued_is, value_of_with, values_of_both}
-use Rattle.td_types.specs.TypeListLaws.{HaveNames}
 use Rattle.td_types.specs.Headings.{made_heading}
 use Rattle.td_types.specs.TypeLists.{AreKnown, attributes_meant, heading_meant}
 use Rattle.td_types.specs.Types.{Heading, Type', pack}

@@ -138,6 +138,7 @@ mutual
       also tt (join (tree_inner a) (also tt (join (attribute_list_inner by) (also tt (in_parentheses (commas_inner (summaries_inner items)))))))
   tree_inner (trees.choice a b c) =
       also tt (join (tree_inner a) (also tt (join (tree_inner b) (also tt (join (tree_inner c) (also tt (also tt none_left)))))))
+  tree_inner (trees.binding items a) = also tt (join (in_parentheses (commas_inner (settings_inner items))) (also tt (tree_inner a)))
 
   all_inner : (all : Trees) → EachInner (all_lexemes all)
   all_inner trees.none = no_item

@@ -8,7 +8,6 @@ use Rattle.td_check.proofs.StaticLaws.{types_are_known}
 use Rattle.td_engine.proofs.law_lemmas.WrittenStatements.{definitions_written}
 use Rattle.td_engine.specs.Rebuilding.{DumpsAreRead, base_statement, constraint_statement, dump_statements, type_statement, virtual_statement}
 use Rattle.td_engine.specs.Legality.{IsRuledBase, IsLegal, IsSpelledExpression, IsSpelledIf}
-use Rattle.td_eval.specs.ValueTypes.{IsWritten}
 use Rattle.td_eval.proofs.law_lemmas.KnownRelvars.{fronted}
 use Rattle.td_eval.proofs.law_lemmas.TypedDatabases.{all_at, fronts_keep}
 use Rattle.td_tree.specs.Names.{IsName}
@@ -18,6 +17,7 @@ use Rattle.td_types.specs.Types.{IsHeading, pack, relation}
 use Rattle.td_engine.proofs.law_lemmas.DumpFacts.{components_low, heading_is_low, heading_names, literal_spelled, typed_names}
 use Rattle.td_engine.proofs.law_lemmas.DumpLines.{IsLine, base_line_is, constraint_line_is, type_line_is, virtual_line_is}
 use Rattle.td_engine.proofs.law_lemmas.DumpScript.{IsScript, lines_first, no_line, script_reads}
+use Rattle.td_tree.specs.WrittenTrees.{IsWritten}
 
 -- ---- lists
 

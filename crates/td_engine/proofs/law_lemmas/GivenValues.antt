@@ -2,13 +2,13 @@
 use Rattle.std.proofs.Common.{ℕ, List, subst}
 use Rattle.td_catalog.specs.Database.{Database, database_scope}
 use Rattle.td_catalog.specs.TypedDatabases.{IsTyped}
+use Rattle.td_catalog.specs.WrittenDefinitions.{DefinitionsAreWritten}
 use Rattle.td_engine.specs.Assignments.{source_world}
 use Rattle.td_engine.specs.code.Gifts.{IsGift}
 use Rattle.td_eval.proofs.law_lemmas.ValuedWorlds.{other_relations_give_values, typed_databases_give_values}
 use Rattle.td_eval.proofs.code_lemmas.WorldParts.{world_scope}
 use Rattle.td_eval.specs.DatabaseWorlds.{world_of}
 use Rattle.td_eval.specs.UnfailingValues.{GivesValues}
-use Rattle.td_eval.specs.ValueTypes.{DefinitionsAreWritten}
 use Rattle.td_value.specs.Values.{Relation}
 
 module _ (db : Database) (is_typed : IsTyped db) (written : DefinitionsAreWritten db) where

@@ -5,6 +5,7 @@ use Rattle.std.specs.List.{AllByRecursion}
 use Rattle.std.specs.Option.{option_or}
 use Rattle.td_catalog.specs.Database.{Database, NamedConstraint, VirtualRelvar, database_scope}
 use Rattle.td_catalog.specs.TypedDatabases.{IsTyped, IsTypedConstraint}
+use Rattle.td_catalog.specs.WrittenDefinitions.{DefinitionsAreWritten}
 use Rattle.td_engine.proofs.law_lemmas.EachOf.{all_both, all_given}
 use Rattle.td_engine.proofs.law_lemmas.PassedChecks.{all_pass}
 use Rattle.td_engine.proofs.law_lemmas.RebuiltLists.{all_first}
@@ -20,8 +21,8 @@ use Rattle.td_eval.proofs.law_lemmas.LaterEntries.{later_entries_change_nothing}
 use Rattle.td_eval.specs.DatabaseWorlds.{world_of}
 use Rattle.td_eval.specs.TreeValues.{value_of}
 use Rattle.td_eval.specs.ValueLaws.{HasLater, IsChecked}
-use Rattle.td_eval.specs.ValueTypes.{DefinitionsAreWritten, IsWritten}
 use Rattle.td_tree.specs.Trees.{Tree, name}
+use Rattle.td_tree.specs.WrittenTrees.{IsWritten}
 use Rattle.td_types.specs.TypeLists.{DeclaredType}
 use Rattle.td_types.specs.Types.{boolean}
 

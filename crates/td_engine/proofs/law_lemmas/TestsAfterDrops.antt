@@ -18,13 +18,13 @@ use Rattle.td_eval.proofs.law_lemmas.DroppedEntries.{drops_change_no_value}
 use Rattle.td_eval.proofs.code_lemmas.WorldParts.{virtual_name}
 use Rattle.td_eval.specs.DatabaseWorlds.{world_of}
 use Rattle.td_eval.specs.ValueLaws.{IsChecked}
-use Rattle.td_eval.specs.ValueTypes.{IsWritten}
 use Rattle.td_tree.specs.Trees.{name}
 use Rattle.td_types.proofs.HeadingLaws.{same_name-itself}
 use Rattle.td_types.proofs.NameTests.{name_tests_tell}
 use Rattle.td_types.specs.Headings.{are_distinct, has_name}
 use Rattle.td_types.specs.Types.{boolean, same_name}
 use Rattle.std.specs.Cmp.Lexicographic.{same_text}
+use Rattle.td_tree.specs.WrittenTrees.{IsWritten}
 
 -- ---- names
 

@@ -38,11 +38,11 @@ use Rattle.td_tree.specs.Names.{IsName}
 use Rattle.td_tree.specs.Outcomes.{Valued, with_value}
 use Rattle.td_tree.specs.Trees as trees
 use Rattle.td_tree.specs.Trees.{AttributeTrees, Text, Tree}
+use Rattle.td_tree.specs.WrittenTrees.{HaveNames}
 use Rattle.td_tree.specs.declared.cause.Cause.TheVariants as causes
 use Rattle.td_types.proofs.Meanings.{known_attributes, known_heading, pack_unpack}
 use Rattle.td_types.proofs.OutcomeLaws.{valued_is, value_of_with, values_of_both}
 use Rattle.td_types.specs.Headings.{made_heading}
-use Rattle.td_types.specs.TypeListLaws.{HaveNames}
 use Rattle.td_types.specs.TypeLists.{IsKnown, attributes_meant, declared_type, heading_meant, is_declared}
 use Rattle.td_types.specs.Types.{Attribute, Attrs, Heading, IsHeading, IsType, Type', pack, relation, unpack}
 use Rattle.td_value.specs.Values.{IsRelation, Relation}

@@ -7,6 +7,7 @@ use Rattle.std.specs.List.{AllByRecursion, Contains}
 use Rattle.td_algebra.specs.Operators.{difference, is_disjoint, is_subset, restriction, union}
 use Rattle.td_catalog.specs.Database.{BaseRelvar, Database, base_among, base_named, database_scope, known_base}
 use Rattle.td_catalog.specs.TypedDatabases.{IsTyped, IsTypedBase}
+use Rattle.td_catalog.specs.WrittenDefinitions.{DefinitionsAreWritten}
 use Rattle.td_check.specs.OperatorTypes.{known_or, same_heading}
 use Rattle.td_check.specs.Scopes.{Scope, entered_with, known_relvar}
 use Rattle.td_check.specs.StatementTypes.{assignment_checked, both_hold, condition_fits, in_target, is_target, settings_fit, source_fits, statement_checked, type_if_given}
@@ -28,11 +29,12 @@ use Rattle.td_eval.proofs.code_lemmas.TypedRows.{own_type, parts_typed, rows_typ
 use Rattle.td_eval.proofs.code_lemmas.TypedTrees.{values_keep_types}
 use Rattle.td_eval.specs.OperatorValues.{disjoint_union, included_difference, is_true, on_relation, set_value, truth_value}
 use Rattle.td_eval.specs.TreeValues.{value_of, values_in_tuples}
-use Rattle.td_eval.specs.ValueTypes.{DefinitionsAreWritten, IsOfType, IsWritten, KeepsScope, KeepsType}
+use Rattle.td_eval.specs.ValueTypes.{IsOfType, KeepsScope, KeepsType}
 use Rattle.td_eval.specs.Worlds.{World}
 use Rattle.td_tree.specs.declared.cause.Cause.TheVariants as causes
 use Rattle.td_tree.specs.Outcomes.{Outcome, Valued, gathered, value_if, with_both, with_value}
 use Rattle.td_tree.specs.Trees.{Assignment, NamedTrees, Tree, assign, assign_all, delete, disjoint_insert, included_delete, insert, more_named, none_named, parentheses, prefix, update}
+use Rattle.td_tree.specs.WrittenTrees.{IsWritten}
 use Rattle.td_tree.specs.declared.operator.Operator.TheVariants as operators
 use Rattle.td_tree.specs.declared.operator.Prefix.TheVariants as prefixes
 use Rattle.td_tree.specs.declared.operator.Style.{Style}

@@ -18,10 +18,7 @@ use Rattle.td_tree.specs.Statements.{PlacedToken}
 use Rattle.td_tree.specs.TextTokens.{content}
 use Rattle.td_tree.specs.TokenLexemes.{is_quoted_text, is_the_word, lexeme_of, lexemes}
 use Rattle.td_tree.specs.Trees.{AttributeTrees, Literal, NamedTrees, Postfix, Renaming, Summaries, Text, Tree, Trees, TypeTree}
-use Rattle.td_check.specs.StaticLaws.{GiveNames, ItemsGiveNames, OperatorGivesNames, PartsGiveNames}
-use Rattle.td_eval.specs.TreeTexts.{HaveTexts, IsUtf8Literal, ItemsHaveTexts, PartsHaveTexts}
-use Rattle.td_eval.specs.ValueTypes.{IsWritten}
-use Rattle.td_types.specs.TypeListLaws.{HasNames, HaveNames}
+use Rattle.td_tree.specs.WrittenTrees.{GiveNames, HasNames, HaveNames, HaveTexts, IsUtf8Literal, IsWritten, ItemsGiveNames, ItemsHaveTexts, OperatorGivesNames, PartsGiveNames, PartsHaveTexts}
 
 -- ---- lexemes
 
@@ -152,6 +149,7 @@ three p q r = ((p.0, q.0, r.0), (p.1, q.1, r.1))
 mutual
   pub written : {level : Level} {xs : List Lexeme} {t : Tree} → Spelling level xs t → AreOfTokens xs → IsWritten t
   written (g.looser p) h = written p h
+  written (g.binding {xs} p q) h = both (settings_written p (inside xs _ (front (with_parentheses xs) _ h.1).1)) (written q (back (with_parentheses xs) _ h.1).1)
   written (g.restriction {xs} {ys} p q) h = both (written p (front xs _ h)) (written q (back xs _ h).1)
   written (g.between {op} {xs} {ys} p q) h = both (written p (front xs _ h)) (written q (back (operator_words op) ys (back xs _ h)))
   written (g.negation p) h = written p h.1

@@ -12,7 +12,6 @@ use Rattle.td_types.specs.Types.{Heading, Type', attribute_names, pack}
 use Rattle.td_types.specs.Types as types
 use Rattle.td_types.proofs.HeadingLaws.{ascending_from_heading}
 use Rattle.td_check.specs.OperatorTypes.{named_part, postfix_type, relation_if, renaming_pairs}
-use Rattle.td_check.specs.StaticLaws.{OperatorGivesNames}
 use Rattle.td_check.proofs.KnownLaws.{known_closed}
 use Rattle.td_check.proofs.OperatorLaws.{all_fit, renamed_fit, united}
 use Rattle.td_value.specs.Values.{Val, Relation, Tuple}
@@ -28,6 +27,7 @@ use Rattle.td_eval.proofs.code_lemmas.KeepsRelations.{AreOwn, IsOwn, IsTypedRela
 use Rattle.td_eval.proofs.code_lemmas.KeepsUnnesting.{ungroup_keeps, unwrap_keeps}
 use Rattle.td_eval.proofs.code_lemmas.NestedNames.{rest_named}
 use Rattle.td_group.specs.Nesting.{grouped_relation, wrapped_relation}
+use Rattle.td_tree.specs.WrittenTrees.{OperatorGivesNames}
 
 -- ---- projection
 

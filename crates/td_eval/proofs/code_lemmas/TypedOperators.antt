@@ -30,13 +30,13 @@ use Rattle.td_value.specs.KnownValues.{AreOfTypes}
 use Rattle.td_value.specs.Values.{Val, char, of_number, tuple, relation, Parts, no_parts, part, Rows, no_rows, row, AreValues, IsValue, heading_of, unpack_fields, unpack_rows, value_at, value_cmp}
 use Rattle.td_value.proofs.KnownValues.{has_its_type}
 use Rattle.td_eval.specs.OperatorValues.{at_most, comparison_value, component_value, components_of, equality_value, extracted_value, is_zero, literal_value, measure_value, membership_value, of_truth, on_number, on_numbers, on_text, on_truth, on_truths, only_tuple, operator_value, prefix_value, quotient, relation_where, signed_number}
-use Rattle.td_eval.specs.TreeTexts.{IsUtf8Literal}
 use Rattle.td_eval.specs.ValueTypes.{IsOfType, KeepsType}
 use Rattle.td_eval.proofs.code_lemmas.KeepsClosure.{closure_keeps}
 use Rattle.td_eval.proofs.code_lemmas.KeepsGathered.{one_dynamic}
 use Rattle.td_eval.proofs.code_lemmas.KeepsRelations.{over_relation_keeps}
 use Rattle.td_eval.proofs.code_lemmas.TypedOutcomes.{KeepsAs, test_keeps}
 use Rattle.td_eval.proofs.code_lemmas.TypedValues.{BothFound, fields_heading, fields_of, found_in_fields, in_range_keeps, integer_of, known_keeps, number_keeps, relation_keeps, rows_of, same_is, text_keeps, text_of, truth_keeps, tuple_keeps, type_is, user_of}
+use Rattle.td_tree.specs.WrittenTrees.{IsUtf8Literal}
 
 module _ (ds : List DeclaredType) where
   -- ---- literals

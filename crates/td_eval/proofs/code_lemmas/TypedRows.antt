@@ -81,6 +81,10 @@ module _ (ds : List DeclaredType) where
       let is = IsTupleOf-tuple_of (heading_from (heading_of es)) es fields d head.0 types in
       ((is.0, entries_have (tuple_of es) (set_of_all entry_cmp (IsTypedEntry ds) es h)), is.1)
 
+  -- a value of a type makes a tuple of one attribute
+  pub one_typed : (n : List ℕ) (v : Val) (t : Type') → IsName n → IsOfType ds v t → IsTypedTuple ds ((n, v) ∷ [])
+  one_typed n v t name h = (made_typed ((n, v) ∷ []) refl ((name, own_type ds v t h), tt)).0
+
   -- entries of the types of the attributes
   abbrev pub AreEntriesOf : List Attribute → Tuple → Type 0
   AreEntriesOf attributes es = (attributes ≡ heading_of es) × AllByRecursion (IsTypedEntry ds) es

@@ -1,13 +1,13 @@
 -- The value of an expression that has a type is of that type, or its causes are dynamic.
-use Rattle.std.proofs.Common.{◌≡◌, ◌∙◌, ◌++◌, ℕ, true, Contains, List, [], ◌∷◌, Option, Some, None, map, option_map, ap, refl, subst, sym, append-nil}
+use Rattle.std.proofs.Common.{◌≡◌, ◌∙◌, ◌++◌, ℕ, Bool, true, false, Contains, List, [], ◌∷◌, Option, Some, None, map, option_map, ap, refl, subst, sym, append-nil}
 use Rattle.std.specs.List.{AllByRecursion}
-use Rattle.std.specs.Prelude.{⊤}
+use Rattle.std.specs.Prelude.{⊤, if◌then◌else◌}
 use Rattle.td_algebra.proofs.Entries.{type_at-heading_of}
 use Rattle.td_algebra.proofs.Members.{first_true, second_true}
-use Rattle.td_check.specs.OperatorTypes.{count_item, aggregate_item, aggregate_type, are_types_of, comparison_type, component_type, extension_type, extracted_type, headed_type, item_type, known_or, listed_type, measure_type, operator_type, over_relation, postfix_type, prefix_type, same_type, selector_type, setting_type, tuple_type, restriction_type}
-use Rattle.td_check.specs.Scopes.{KnownRelvar, Scope, entered_with, innermost, known_relvar}
-use Rattle.td_check.specs.StaticLaws.{GiveNames, GivesNames, HasMore, IsKnownHeading, IsScope, ItemsGiveNames, PartsGiveNames}
-use Rattle.td_check.specs.StaticTypes.{items_of, name_type, named_types, type_of, types_of}
+use Rattle.td_check.specs.OperatorTypes.{count_item, aggregate_item, aggregate_type, are_types_of, comparison_type, component_type, extension_type, extracted_type, headed_type, item_type, known_or, listed_type, measure_type, misfit, operator_type, over_relation, postfix_type, prefix_type, same_type, selector_type, setting_type, tuple_type, restriction_type}
+use Rattle.td_check.specs.Scopes.{KnownRelvar, Scope, bound_to, entered_with, innermost, known_relvar}
+use Rattle.td_check.specs.StaticLaws.{HasMore, IsKnownHeading, IsScope}
+use Rattle.td_check.specs.StaticTypes.{items_of, name_type, named_types, type_of, type_where_bound, types_of}
 use Rattle.td_check.proofs.GivenLaws.{items_give}
 use Rattle.td_check.proofs.KnownLaws.{known_closed, supplies}
 use Rattle.td_check.proofs.OperatorLaws.{Gives, ItemFits}
@@ -18,9 +18,8 @@ use Rattle.td_tree.specs.declared.operator.Operator.{Operator}
 use Rattle.td_tree.specs.declared.operator.Operator.TheVariants as operators
 use Rattle.td_tree.specs.Names.{IsName}
 use Rattle.td_tree.specs.Outcomes.{Outcome, Valued, Refused, gathered, value_if, with_both, with_value}
-use Rattle.td_tree.specs.Trees.{AttributeTrees, Tree, literal, name, parentheses, prefix, extract, restriction, binary, compare, postfix, select, component, measure, aggregate, relation, headed_relation, tuple, extend, extend_setting, summarize_per, summarize_by, choice, Trees, none, more, NamedTrees, none_named, more_named, Summaries, no_summaries, counted, summed}
-use Rattle.td_types.specs.Headings.{made_heading}
-use Rattle.td_types.specs.TypeListLaws.{HaveNames}
+use Rattle.td_tree.specs.Trees.{AttributeTrees, Tree, literal, name, parentheses, prefix, extract, restriction, binary, compare, postfix, select, component, measure, aggregate, relation, headed_relation, tuple, extend, extend_setting, summarize_per, summarize_by, choice, binding, Trees, none, more, NamedTrees, none_named, more_named, Summaries, no_summaries, counted, summed}
+use Rattle.td_types.specs.Headings.{has_name, made_heading}
 use Rattle.td_types.specs.TypeLists.{AreKnown, DeclaredType, IsKnown, attributes_meant, declared_at, heading_meant}
 use Rattle.td_types.specs.Types.{Type', Attribute, Heading, IsHeading, IsType, pack, type_at}
 use Rattle.td_types.specs.Types as types
@@ -34,8 +33,7 @@ use Rattle.td_value.proofs.KnownValues.{has_its_type, has_known_type}
 use Rattle.td_value.proofs.Typed.{typed}
 use Rattle.td_eval.specs.AggregateValues.{aggregated_value, asked_of, summary_attributes}
 use Rattle.td_eval.specs.OperatorValues.{comparison_value, component_value, extended_by_settings, extended_value, extracted_value, headed_value, listed_value, measure_value, on_relation, operator_value, postfix_value, prefix_value, restricted_value, tuple_from}
-use Rattle.td_eval.specs.TreeTexts.{HasTexts, HaveTexts, ItemsHaveTexts, PartsHaveTexts}
-use Rattle.td_eval.specs.TreeValues.{argument_values, entry_values, items_in_tuples, value_of, values_in_tuples}
+use Rattle.td_eval.specs.TreeValues.{argument_values, entry_values, items_in_tuples, value_of, value_where_bound, values_in_tuples}
 use Rattle.td_eval.specs.ValueTypes.{IsOfType, IsTypedTuple, KeepsScope, KeepsType, ValuesKeepTypes}
 use Rattle.td_eval.specs.Worlds.{World, innermost_value, known_outcome, name_value, selector_outcome, with_tuples}
 use Rattle.td_eval.proofs.code_lemmas.KeepsGathered.{member_from_all}
@@ -47,8 +45,9 @@ use Rattle.td_eval.proofs.code_lemmas.KeepsSummaries.{ItemsKeep, summarize_by_ke
 use Rattle.td_eval.proofs.code_lemmas.SummaryParts.{attributes_of_items, more_changes_no_items}
 use Rattle.td_eval.proofs.code_lemmas.TypedOperators.{add_keeps, and_keeps, choice_keeps, comparison_keeps, component_keeps, concatenate_keeps, divide_keeps, extracted_keeps, literal_keeps, measure_keeps, multiply_keeps, or_keeps, prefix_keeps, subtract_keeps}
 use Rattle.td_eval.proofs.code_lemmas.TypedOutcomes.{KeepsAs, Of, as_typed, both_keep, keeps_both, made_keeps, test_keeps, typed_as, value_keeps}
-use Rattle.td_eval.proofs.code_lemmas.TypedRows.{AreEntriesOf, AreOf, extend_keeps, headed_keeps, listed_keeps, own_type, rows_typed, tuple_from_keeps, where_keeps}
+use Rattle.td_eval.proofs.code_lemmas.TypedRows.{AreEntriesOf, AreOf, extend_keeps, headed_keeps, listed_keeps, one_typed, own_type, rows_typed, tuple_from_keeps, where_keeps}
 use Rattle.td_eval.proofs.code_lemmas.TypedValues.{BothFound, found_in_tuple, type_is}
+use Rattle.td_tree.specs.WrittenTrees.{GiveNames, GivesNames, HasTexts, HaveNames, HaveTexts, ItemsGiveNames, ItemsHaveTexts, PartsGiveNames, PartsHaveTexts}
 
 -- ---- operators between two operands
 
@@ -154,6 +153,18 @@ one_more_part ds r n (Valued t) (Valued attributes) f fs h k = (h, k)
 one_more_part ds r n (Valued t) (Refused cs) f fs h k = tt
 one_more_part ds r n (Refused bs) (Valued attributes) f fs h k = tt
 one_more_part ds r n (Refused bs) (Refused cs) f fs h k = tt
+
+-- ---- items of WITH
+
+-- a name twice has no type
+unless_misfit : (ds : List DeclaredType) (b : Bool) (x : Outcome Type') (o : Outcome Val) → KeepsType ds x o → KeepsType ds (if b then misfit else x) o
+unless_misfit ds true x o k = tt
+unless_misfit ds false x o k = k
+
+-- where an item of WITH has a type, so has what stands behind it
+pub typed_behind : (b : Bool) (x : Outcome Type') (t : Type') → (if b then misfit else x) ≡ Valued t → x ≡ Valued t
+typed_behind true x t e = absurd (cc)
+typed_behind false x t e = e
 
 -- ---- trees
 
@@ -336,6 +347,26 @@ module _ (w : World) (scope : Scope) (k : KeepsScope w scope) where
         (keeps condition s h n.0 x.0)
         (keeps consequent s h n.1 x.1)
         (keeps alternative s h n.2 x.2)
+    keeps (binding items result) s h n x =
+        bound_keeps items [] s (λ inner. type_of inner result) (λ inner. value_of w inner result) h n.0 x.0 (λ inner a. keeps result inner a n.1 x.1)
+
+    -- what stands where WITH's items are in scope keeps its type if it does where typed tuples are
+    bound_keeps : (items : NamedTrees) (before : List (List ℕ)) (s : List Tuple) (kind : Scope → Outcome Type') (given : List Tuple → Outcome Val)
+        → AreTyped s → PartsGiveNames items → PartsHaveTexts items
+        → ((inner : List Tuple) → AreTyped inner → KeepsType ds (kind (with_tuples scope inner)) (given inner))
+        → KeepsType ds (type_where_bound before (with_tuples scope s) items kind) (value_where_bound w s items given)
+    bound_keeps none_named before s kind given h n x inside = inside s h
+    bound_keeps (more_named m value rest) before s kind given h n x inside =
+        let here = with_tuples scope s in
+        value_keeps ds (type_of here value) (value_of w s value)
+        (λ t. if has_name m before then misfit else type_where_bound (m ∷ before) (bound_to m t here) rest kind)
+        (λ v. value_where_bound w (((m, v) ∷ []) ∷ s) rest given)
+        (keeps value s h n.1 x.0)
+        (λ t v q. unless_misfit ds (has_name m before) (type_where_bound (m ∷ before) (bound_to m t here) rest kind)
+        (value_where_bound w (((m, v) ∷ []) ∷ s) rest given)
+        (subst (λ u. KeepsType ds (type_where_bound (m ∷ before) (bound_to m u here) rest kind) (value_where_bound w (((m, v) ∷ []) ∷ s) rest given))
+        (has_its_type ds v t q.1)
+        (bound_keeps rest (m ∷ before) (((m, v) ∷ []) ∷ s) kind given (one_typed ds m v t n.0 q, h) n.2 x.1 inside)))
 
     arguments_keep : (es : Trees) (s : List Tuple) → AreTyped s → GiveNames es → HaveTexts es
         → KeepsAs (AreOf ds) (types_of (with_tuples scope s) es) (argument_values w s es)

@@ -13,8 +13,9 @@ use Rattle.td_eval.proofs.law_lemmas.MetConstraints.{OfValues, of_values}
 use Rattle.td_eval.specs.DatabaseWorlds.{world_of}
 use Rattle.td_eval.specs.LiteralValues.{DropsKeepWhatMeets, Selects}
 use Rattle.td_eval.specs.OperatorValues.{components_of}
-use Rattle.td_eval.specs.ValueTypes.{AreComponentsOf, ConstraintsAreWritten}
+use Rattle.td_eval.specs.ValueTypes.{AreComponentsOf}
 use Rattle.td_types.proofs.RemovedTypes.{declared_at-without}
+use Rattle.td_types.specs.TypeListLaws.{ConstraintsAreWritten}
 use Rattle.td_types.specs.TypeLists.{AreKnown, DeclaredType, IsKnown, declared_at, is_declared}
 use Rattle.td_types.specs.Types.{Attribute, Attrs, Type', attr, no_attrs, same_name}
 use Rattle.td_types.specs.Types as types

@@ -31,12 +31,14 @@ use Rattle.td_eval.specs.LiteralValues.{CutTypesKeepConstraints}
 use Rattle.td_eval.specs.OperatorValues.{truth_value}
 use Rattle.td_eval.specs.TreeValues.{value_of}
 use Rattle.td_eval.specs.ValueLaws.{IsChecked}
-use Rattle.td_eval.specs.ValueTypes.{AreComponentsOf, ConstraintsAreWritten, IsWritten, KeepsScope}
+use Rattle.td_eval.specs.ValueTypes.{AreComponentsOf, KeepsScope}
 use Rattle.td_eval.specs.Worlds.{World, selector_outcome}
 use Rattle.td_eval.proofs.code_lemmas.KeepsGathered.{all_from_members}
 use Rattle.td_eval.proofs.law_lemmas.MoreWorlds.{HasMoreThan, same_in_more}
 use Rattle.td_eval.proofs.law_lemmas.TypedDatabases.{components_known, typed_databases_keep_scopes, shrunk, some_same}
 use Rattle.td_eval.proofs.code_lemmas.TypedRows.{IsTypedEntry, made_typed, own_type}
+use Rattle.td_tree.specs.WrittenTrees.{IsWritten}
+use Rattle.td_types.specs.TypeListLaws.{ConstraintsAreWritten}
 
 -- ---- types that may stand in a typed database
 

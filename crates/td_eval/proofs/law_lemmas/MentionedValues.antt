@@ -1,13 +1,14 @@
 -- The value of an expression that has a type depends only on what it mentions.
-use Rattle.std.proofs.Common.{◌≡◌, ◌∙◌, ◌++◌, ℕ, Bool, true, List, [], ◌∷◌, Option, Some, None, map, option_map, ap, refl, subst, sym, append-nil}
+use Rattle.std.proofs.Common.{◌≡◌, ◌∙◌, ◌++◌, ℕ, Bool, true, List, [], ◌∷◌, Option, Some, None, map, option_map, ap, append-nil, refl, subst, sym}
+use Rattle.std.proofs.lemmas.List.{append_assoc}
 use Rattle.std.specs.List.{AllByRecursion}
 use Rattle.std.specs.Prelude.{if◌then◌else◌, is_some, IsTrue}
 use Rattle.std.proofs.lemmas.List.Elements.{Contains-append_left, Contains-append_right}
-use Rattle.td_check.specs.Mentions.{in_tuples, mentioned_by_name, relvars_in, relvars_in_all, relvars_in_items, relvars_in_named, types_in, types_in_all, types_in_items, types_in_named, types_named_in}
-use Rattle.td_check.specs.OperatorTypes.{count_item, aggregate_item, aggregate_type, are_types_of, choice_type, comparison_type, component_type, extension_type, extracted_type, headed_type, known_or, listed_type, measure_type, operator_type, over_relation, postfix_type, prefix_type, selector_type, setting_type, tuple_type, restriction_type}
-use Rattle.td_check.specs.Scopes.{KnownRelvar, Scope, entered_with, innermost, known_relvar}
-use Rattle.td_check.specs.StaticLaws.{AgreeOn, GiveNames, GivesNames, HasMore, ItemsGiveNames, PartsGiveNames, UsersAllIn, UsersIn}
-use Rattle.td_check.specs.StaticTypes.{items_of, named_types, both_types, type_of, types_of, with_items}
+use Rattle.td_check.specs.Mentions.{behind_item, in_tuples, mentioned_by_name, relvars_in, relvars_in_all, relvars_in_items, relvars_in_named, relvars_where_bound, types_in, types_in_all, types_in_items, types_in_named, types_named_in}
+use Rattle.td_check.specs.OperatorTypes.{count_item, aggregate_item, aggregate_type, are_types_of, choice_type, comparison_type, component_type, extension_type, extracted_type, headed_type, known_or, listed_type, measure_type, misfit, operator_type, over_relation, postfix_type, prefix_type, selector_type, setting_type, tuple_type, restriction_type}
+use Rattle.td_check.specs.Scopes.{KnownRelvar, Scope, bound_to, entered_with, innermost, known_relvar}
+use Rattle.td_check.specs.StaticLaws.{AgreeOn, HasMore, UsersAllIn, UsersIn}
+use Rattle.td_check.specs.StaticTypes.{items_of, named_types, both_types, type_of, type_where_bound, types_of, with_items}
 use Rattle.td_check.proofs.AgreementLaws.{agree_entered, heading_follows, one_is}
 use Rattle.td_check.proofs.CarriedLaws.{Each}
 use Rattle.td_check.proofs.MentionLaws.{carried, items_carried_in, named_carried}
@@ -15,8 +16,8 @@ use Rattle.td_check.proofs.StaticLaws.{more_changes_no_parts}
 use Rattle.td_check.proofs.SummaryLaws.{HeadingItems, Items}
 use Rattle.td_tree.specs.declared.cause.Cause.TheVariants as causes
 use Rattle.td_tree.specs.Outcomes.{Outcome, Valued, Refused, value_if, with_both, with_value}
-use Rattle.td_tree.specs.Trees.{AttributeTrees, Tree, literal, name, parentheses, prefix, extract, restriction, binary, compare, postfix, select, component, measure, aggregate, relation, headed_relation, tuple, extend, extend_setting, summarize_per, summarize_by, choice, Trees, none, more, NamedTrees, none_named, more_named, Summaries, no_summaries, counted, summed, project}
-use Rattle.td_types.specs.Headings.{made_heading}
+use Rattle.td_tree.specs.Trees.{AttributeTrees, Tree, literal, name, parentheses, prefix, extract, restriction, binary, compare, postfix, select, component, measure, aggregate, relation, headed_relation, tuple, extend, extend_setting, summarize_per, summarize_by, choice, binding, Trees, none, more, NamedTrees, none_named, more_named, Summaries, no_summaries, counted, summed, project}
+use Rattle.td_types.specs.Headings.{has_name, made_heading}
 use Rattle.td_types.specs.TypeLists.{DeclaredType, attributes_meant, declared_at, heading_meant}
 use Rattle.td_types.specs.Types.{Type', Attribute, Attrs, Heading, pack, unpack}
 use Rattle.td_types.specs.Types as types
@@ -27,8 +28,7 @@ use Rattle.td_value.specs.Values.{Val, boolean, integer, char, relation_value, u
 use Rattle.td_value.specs.Values as values
 use Rattle.td_eval.specs.AggregateValues.{aggregated_value, asked_of, summarized_value, summary_attributes, summary_value}
 use Rattle.td_eval.specs.OperatorValues.{comparison_value, component_value, extended_by_settings, extended_value, extracted_value, headed_value, listed_value, measure_value, on_relation, on_truth, operator_value, postfix_value, prefix_value, restricted_value, tuple_from}
-use Rattle.td_eval.specs.TreeTexts.{HasTexts, HaveTexts, ItemsHaveTexts, PartsHaveTexts}
-use Rattle.td_eval.specs.TreeValues.{argument_values, entry_values, items_in_tuples, value_of, values_in_tuples}
+use Rattle.td_eval.specs.TreeValues.{argument_values, entry_values, items_in_tuples, value_of, value_where_bound, values_in_tuples}
 use Rattle.td_eval.specs.ValueLaws.{HasTheSame, SelectsTheSame, ValuesDependOnMentions}
 use Rattle.td_eval.specs.ValueTypes.{AreComponentsOf, IsOfType, IsTypedTuple, KeepsScope, KeepsType}
 use Rattle.td_eval.specs.Worlds.{World, innermost_value, known_outcome, name_value, selector_outcome, with_tuples}
@@ -37,8 +37,10 @@ use Rattle.td_eval.proofs.law_lemmas.AlikeRows.{AreAlikeIn, aggregated_alike, ex
 use Rattle.td_eval.proofs.law_lemmas.AlikeSummaries.{SummandsAlikeIn, summarized_alike}
 use Rattle.td_eval.proofs.code_lemmas.SummaryParts.{attributes_of_items, by_type, more_changes_no_items, per_type}
 use Rattle.td_eval.proofs.law_lemmas.TypedArguments.{arguments_typed, known_is}
-use Rattle.td_eval.proofs.code_lemmas.TypedRows.{rows_typed}
-use Rattle.td_eval.proofs.code_lemmas.TypedTrees.{innermost_typed, keeps}
+use Rattle.td_eval.proofs.code_lemmas.TypedRows.{one_typed, rows_typed}
+use Rattle.td_value.proofs.KnownValues.{has_its_type}
+use Rattle.td_eval.proofs.code_lemmas.TypedTrees.{innermost_typed, keeps, typed_behind}
+use Rattle.td_tree.specs.WrittenTrees.{GiveNames, GivesNames, HasTexts, HaveTexts, ItemsGiveNames, ItemsHaveTexts, PartsGiveNames, PartsHaveTexts}
 
 -- a scope where attributes of these headings are in hand
 abbrev among_headings : Scope → List Heading → Scope
@@ -101,6 +103,16 @@ module _ (among : List ℕ → Bool) (scope : Scope) (w v : World) (k : KeepsSco
         known = agree_entered among (here hs) (there hs) a.known (unpack g) (subst (UsersAllIn among) (sym (pack_unpack g)) users);
         types_agree = a.types_agree;
         relvars_agree = subst (λ p. Each (HasTheSame among scope w v) (mentioned (in_tuples (here hs) p))) is a.relvars_agree;
+      }
+
+  -- behind an item of WITH
+  behind_is : (hs : List Heading) (n : List ℕ) (o : Outcome Type') (t : Type') (xs : List (List ℕ)) (mentioned : Scope → List (List ℕ)) → o ≡ Valued t
+      → UsersIn among t → Agreed hs xs (mentioned (behind_item n o (here hs))) → Agreed (((n, t) ∷ []) ∷ hs) xs (mentioned (here (((n, t) ∷ []) ∷ hs)))
+  behind_is hs n o t xs mentioned is users a =
+      record {
+        known = agree_entered among (here hs) (there hs) a.known ((n, t) ∷ []) (users, tt);
+        types_agree = a.types_agree;
+        relvars_agree = subst (λ p. Each (HasTheSame among scope w v) (mentioned (behind_item n p (here hs)))) is a.relvars_agree;
       }
 
   -- ---- names
@@ -422,6 +434,38 @@ module _ (among : List ℕ → Bool) (scope : Scope) (w v : World) (k : KeepsSco
         let three = same alternative s z.1 h n.2 x.2
         (rest_part hs (types_in consequent) (types_in alternative) (relvars_in (here hs) consequent) (relvars_in (here hs) alternative) others) z.3 in
         λ i. with_value (one i) (λ z. on_truth z (λ b. if b then two i else three i))
+    same (binding items result) s t h n x a is =
+        same_bound items [] (types_in result) s t (λ i. type_of i result) (λ i. relvars_in i result) (λ u. value_of v u result) (λ u. value_of w u result)
+        h n.0 x.0 a is (λ u p b e. same result u t p n.1 x.1 b e)
+
+    -- what stands where WITH's items are in scope, which mentions these further types
+    same_bound : (items : NamedTrees) (before further : List (List ℕ)) (s : List Tuple) (t : Type') (kind : Scope → Outcome Type')
+        (mentioned : Scope → List (List ℕ)) (other given : List Tuple → Outcome Val) → AreTyped s → PartsGiveNames items → PartsHaveTexts items
+        → Agreed (map heading_of s) (types_in_named items ++ further) (relvars_where_bound (here (map heading_of s)) items mentioned)
+        → type_where_bound before (here (map heading_of s)) items kind ≡ Valued t
+        → ((u : List Tuple) → AreTyped u → Agreed (map heading_of u) further (mentioned (here (map heading_of u)))
+        → kind (here (map heading_of u)) ≡ Valued t → other u ≡ given u)
+        → value_where_bound v s items other ≡ value_where_bound w s items given
+    same_bound none_named before further s t kind mentioned other given h n x a is each = each s h a is
+    same_bound (more_named m value rest) before further s t kind mentioned other given h n x a is each =
+        let hs = map heading_of s in
+        let y = value_of_with (type_of (here hs) value) (λ u. if has_name m before then misfit else type_where_bound (m ∷ before) (bound_to m u (here hs)) rest kind) t is in
+        let behind = typed_behind (has_name m before) (type_where_bound (m ∷ before) (bound_to m y.0 (here hs)) rest kind) t y.2 in
+        let later = relvars_where_bound (behind_item m (type_of (here hs) value) (here hs)) rest mentioned in
+        let all = subst (λ ns. Agreed hs ns (relvars_in (here hs) value ++ later)) (append_assoc (types_in value) (types_in_named rest) further) a in
+        let first = first_part hs (types_in value) (types_in_named rest ++ further) (relvars_in (here hs) value) later all in
+        let others = rest_part hs (types_in value) (types_in_named rest ++ further) (relvars_in (here hs) value) later all in
+        let kept = subst (λ o. KeepsType ds o (value_of w s value)) y.1 (keeps w scope k value s h n.1 x.0) in
+        ap (λ o. with_value o (λ z. value_where_bound v (((m, z) ∷ []) ∷ s) rest other)) (same value s y.0 h n.1 x.0 first y.1)
+        ∙ with_alike (value_of w s value) (λ z. value_where_bound v (((m, z) ∷ []) ∷ s) rest other) (λ z. value_where_bound w (((m, z) ∷ []) ∷ s) rest given)
+        (λ z e.
+        let q = subst (KeepsType ds (Valued y.0)) e kept in
+        let own : y.0 ≡ values.type_of z = sym (has_its_type ds z y.0 q.1) in
+        let into = behind_is hs m (type_of (here hs) value) y.0 (types_in_named rest ++ further) (λ i. relvars_where_bound i rest mentioned) y.1
+        (users_agreed hs value y.0 first y.1) others in
+        same_bound rest (m ∷ before) further (((m, z) ∷ []) ∷ s) t kind mentioned other given (one_typed ds m z y.0 n.0 q, h) n.2 x.1
+        (subst (λ u. Agreed (((m, u) ∷ []) ∷ hs) (types_in_named rest ++ further) (relvars_where_bound (here (((m, u) ∷ []) ∷ hs)) rest mentioned)) own into)
+        (subst (λ u. type_where_bound (m ∷ before) (here (((m, u) ∷ []) ∷ hs)) rest kind ≡ Valued t) own behind) each)
 
     same_arguments : (es : Trees) (s : List Tuple) (ts : List Type') → AreTyped s → GiveNames es → HaveTexts es
         → Agreed (map heading_of s) (types_in_all es) (relvars_in_all (here (map heading_of s)) es) → types_of (here (map heading_of s)) es ≡ Valued ts

@@ -13,10 +13,10 @@ use Rattle.td_eval.proofs.law_lemmas.MetSummaries.{ItemsMeet, aggregated_meets, 
 use Rattle.td_eval.specs.AggregateValues.{aggregated_value, asked_of, summary_attributes, summary_value}
 use Rattle.td_eval.specs.MetConstraints.{EachInTuple, EachInValues, GivesOnly}
 use Rattle.td_eval.specs.OperatorValues.{comparison_value, component_value, extended_by_settings, extended_value, extracted_value, headed_value, listed_value, measure_value, on_relation, on_truth, operator_value, postfix_value, prefix_value, restricted_value, tuple_from}
-use Rattle.td_eval.specs.TreeValues.{argument_values, entry_values, items_in_tuples, value_of, values_in_tuples}
+use Rattle.td_eval.specs.TreeValues.{argument_values, entry_values, items_in_tuples, value_of, value_where_bound, values_in_tuples}
 use Rattle.td_eval.specs.Worlds.{World, innermost_value, known_outcome, name_value, selector_outcome, with_tuples}
 use Rattle.td_tree.specs.Outcomes.{Outcome, Valued, Refused}
-use Rattle.td_tree.specs.Trees.{Tree, literal, name, parentheses, prefix, extract, restriction, binary, compare, postfix, select, component, measure, aggregate, relation, headed_relation, tuple, extend, extend_setting, summarize_per, summarize_by, choice, Trees, none, more, NamedTrees, none_named, more_named, Summaries, no_summaries, counted, summed, project}
+use Rattle.td_tree.specs.Trees.{Tree, literal, name, parentheses, prefix, extract, restriction, binary, compare, postfix, select, component, measure, aggregate, relation, headed_relation, tuple, extend, extend_setting, summarize_per, summarize_by, choice, binding, Trees, none, more, NamedTrees, none_named, more_named, Summaries, no_summaries, counted, summed, project}
 use Rattle.td_types.specs.TypeLists.{heading_meant}
 use Rattle.td_types.specs.Types.{Heading}
 use Rattle.td_value.specs.Values.{Val, Parts, Relation, Tuple, relation_value, value_at}
@@ -145,6 +145,15 @@ module _ (P : List ℕ → Parts → Type 0) where
           gives_with (HasOnly P) (HasOnly P) (value_of w s condition)
           (λ v. on_truth v (λ b. if b then value_of w s consequent else value_of w s alternative)) (value_has condition s m)
           (λ v a. choice_meets v (value_of w s consequent) (value_of w s alternative) (value_has consequent s m) (value_has alternative s m))
+      value_has (binding items result) s m =
+          bound_has items s (λ inner. value_of w inner result) m (λ inner a. value_has result inner a)
+
+      bound_has : (items : NamedTrees) (s : List Tuple) (given : List Tuple → Outcome Val) → AreMet s
+          → ((inner : List Tuple) → AreMet inner → GivesMet P (given inner)) → GivesMet P (value_where_bound w s items given)
+      bound_has none_named s given m inside = inside s m
+      bound_has (more_named n value rest) s given m inside =
+          gives_with (HasOnly P) (HasOnly P) (value_of w s value) (λ v. value_where_bound w (((n, v) ∷ []) ∷ s) rest given) (value_has value s m)
+          (λ v a. bound_has rest (((n, v) ∷ []) ∷ s) given ((a, tt), m) inside)
 
       arguments_have : (es : Trees) (s : List Tuple) → AreMet s → Gives (AllByRecursion (HasOnly P)) (argument_values w s es)
       arguments_have none s m = tt

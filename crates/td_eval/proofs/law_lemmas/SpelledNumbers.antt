@@ -44,6 +44,7 @@ mutual
   in_range (g.summary_per p q r) = (in_range p, in_range q, summaries_in_range r)
   in_range (g.summary_by p by r) = (in_range p, summaries_in_range r)
   in_range (g.choice p q r) = (in_range p, in_range q, in_range r)
+  in_range (g.binding p q) = (settings_in_range p, in_range q)
 
   list_in_range : {xs : List Lexeme} {all : Trees} → ListSpelling xs all → HaveNumbers all
   list_in_range g.no_expressions = tt

@@ -3,7 +3,6 @@ use Rattle.std.proofs.Common.{◌≡◌, true, List, [], ◌∷◌, Option, Some
 use Rattle.std.specs.List.{AllByRecursion}
 use Rattle.td_algebra.proofs.Members.{first_true, second_true}
 use Rattle.td_check.specs.OperatorTypes.{are_types_of, known_or, same_type}
-use Rattle.td_check.specs.StaticLaws.{GiveNames}
 use Rattle.td_check.specs.StaticTypes.{type_of, types_of}
 use Rattle.td_check.specs.Scopes.{Scope}
 use Rattle.td_tree.specs.declared.cause.Cause.{Cause}
@@ -14,12 +13,12 @@ use Rattle.td_types.specs.Types.{Type', Attribute}
 use Rattle.td_types.proofs.OutcomeLaws.{valued_is, values_of_both}
 use Rattle.td_value.specs.KnownValues.{AreOfTypes}
 use Rattle.td_value.specs.Values.{Val, AreValues, Tuple, pack_parts}
-use Rattle.td_eval.specs.TreeTexts.{HaveTexts}
 use Rattle.td_eval.specs.TreeValues.{argument_values, value_of}
 use Rattle.td_eval.specs.ValueTypes.{IsOfType, IsTypedTuple, KeepsScope, KeepsType}
 use Rattle.td_eval.specs.Worlds.{World, with_tuples}
 use Rattle.td_eval.proofs.code_lemmas.TypedTrees.{keeps}
 use Rattle.td_eval.proofs.code_lemmas.TypedValues.{type_is}
+use Rattle.td_tree.specs.WrittenTrees.{GiveNames, HaveTexts}
 
 -- what is known is there
 pub known_is : {A : Type 0} (cause : Cause) (o : Option A) (x : A) → known_or cause o ≡ Valued x → o ≡ Some x

@@ -6,7 +6,8 @@ use Rattle.std.specs.Prelude.{⊤, is_some}
 use Rattle.td_algebra.proofs.Lists.{contains_none}
 use Rattle.td_algebra.proofs.Entries.{names-heading}
 use Rattle.td_catalog.specs.Database.{BaseRelvar, Database, VirtualRelvar, base_among, database_scope, known_base, known_virtual}
-use Rattle.td_catalog.specs.TypedDatabases.{EachAfter, IsTypedBase, IsConstrained, IsTyped, IsTypedVirtual}
+use Rattle.td_catalog.specs.TypedDatabases.{EachAfter, IsConstrained, IsTyped, IsTypedBase, IsTypedVirtual}
+use Rattle.td_catalog.specs.WrittenDefinitions.{DefinitionsAreWritten}
 use Rattle.td_check.specs.OperatorTypes.{are_types_of, if_type, same_type}
 use Rattle.td_check.specs.declared.scope.Kind.TheVariants as kinds
 use Rattle.td_check.specs.Scopes.{KnownRelvar, Scope, alone_with, known_relvar, relvar_in, scope_of, with_known_relvar}
@@ -36,7 +37,7 @@ use Rattle.td_value.proofs.KnownValues.{has_its_type, kept}
 use Rattle.td_eval.specs.DatabaseWorlds.{Selectors, constraint_value, selector_value, selectors_of, types_alone, with_selector, with_virtual_value, world_of}
 use Rattle.td_eval.specs.OperatorValues.{truth_value}
 use Rattle.td_eval.specs.TreeValues.{value_of}
-use Rattle.td_eval.specs.ValueTypes.{AreComponentsOf, ConstraintsAreWritten, DefinitionsAreWritten, IsOfType, IsWritten, KeepsScope, KeepsType, TypedDatabasesKeepScopes}
+use Rattle.td_eval.specs.ValueTypes.{AreComponentsOf, IsOfType, KeepsScope, KeepsType, TypedDatabasesKeepScopes}
 use Rattle.td_eval.specs.Worlds.{World}
 use Rattle.td_eval.proofs.code_lemmas.KeepsGathered.{Keeps, all_from_members, one_dynamic}
 use Rattle.td_eval.proofs.law_lemmas.KnownRelvars.{fronted, never_none, of_front, one_more_scope, one_more_world, relvar_behind, relvar_more, some_one, unknown_lacks}
@@ -44,6 +45,8 @@ use Rattle.td_eval.proofs.code_lemmas.TypedRows.{IsTypedEntry, made_typed, own_t
 use Rattle.td_eval.proofs.code_lemmas.TypedTrees.{values_keep_types}
 use Rattle.td_eval.proofs.code_lemmas.TypedValues.{truth_of, type_is}
 use Rattle.td_eval.proofs.code_lemmas.WorldParts.{world_scope}
+use Rattle.td_tree.specs.WrittenTrees.{IsWritten}
+use Rattle.td_types.specs.TypeListLaws.{ConstraintsAreWritten}
 
 -- ---- a value of a type that is known to the first types is one where they alone are declared
 

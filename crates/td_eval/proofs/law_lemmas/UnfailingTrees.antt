@@ -4,24 +4,24 @@ use Rattle.std.specs.List.{AllByRecursion}
 use Rattle.std.specs.Prelude.{◌^◌, if◌then◌else◌, is_some, nat_lt}
 use Rattle.std.proofs.lemmas.Bool.Decides.{nat_tests}
 use Rattle.td_algebra.proofs.Members.{first_true, second_true}
-use Rattle.td_check.specs.CannotFail.{all_cannot_fail, cannot_fail, is_no_virtual, items_cannot_fail, measure_cannot_fail, name_cannot_fail, operator_cannot_fail, parts_cannot_fail, prefix_cannot_fail, selector_cannot_fail}
+use Rattle.td_check.specs.CannotFail.{all_cannot_fail, cannot_fail, is_no_virtual, items_cannot_fail, measure_cannot_fail, name_cannot_fail, none_fails_where_bound, operator_cannot_fail, parts_cannot_fail, prefix_cannot_fail, selector_cannot_fail}
 use Rattle.td_check.specs.declared.scope.Kind.{Kind}
 use Rattle.td_check.specs.declared.scope.Kind.TheVariants as kinds
-use Rattle.td_check.specs.Mentions.{in_tuples}
-use Rattle.td_check.specs.OperatorTypes.{are_types_of, choice_type, comparison_type, component_type, extension_type, extracted_type, headed_type, known_or, listed_type, measure_type, mismatch, named_part, operator_type, over_relation, per_heading, postfix_type, prefix_type, restriction_type, selector_type, setting_type, summary_type, tuple_type}
-use Rattle.td_check.specs.Scopes.{KnownRelvar, Scope, entered_with, innermost, known_relvar}
-use Rattle.td_check.specs.StaticLaws.{GiveNames, GivesNames, HasMore, PartsGiveNames}
-use Rattle.td_check.specs.StaticTypes.{items_of, name_type, named_types, both_types, type_of, types_of, with_items}
+use Rattle.td_check.specs.Mentions.{behind_item, in_tuples}
+use Rattle.td_check.specs.OperatorTypes.{are_types_of, choice_type, comparison_type, component_type, extension_type, extracted_type, headed_type, known_or, listed_type, measure_type, misfit, mismatch, named_part, operator_type, over_relation, per_heading, postfix_type, prefix_type, restriction_type, selector_type, setting_type, summary_type, tuple_type}
+use Rattle.td_check.specs.Scopes.{KnownRelvar, Scope, bound_to, entered_with, innermost, known_relvar}
+use Rattle.td_check.specs.StaticLaws.{HasMore}
+use Rattle.td_check.specs.StaticTypes.{items_of, name_type, named_types, both_types, type_of, type_where_bound, types_of, with_items}
 use Rattle.td_check.proofs.StaticLaws.{more_changes_no_parts}
 use Rattle.td_eval.specs.OperatorValues.{comparison_value, component_value, extended_by_settings, extended_value, extracted_value, headed_value, listed_value, literal_value, measure_value, on_relation, on_truth, operator_value, postfix_value, prefix_value, restricted_value, signed_number, tuple_from}
-use Rattle.td_eval.specs.TreeTexts.{HasTexts, HaveTexts, PartsHaveTexts}
-use Rattle.td_eval.specs.TreeValues.{argument_values, entry_values, value_of, values_in_tuples}
+use Rattle.td_eval.specs.TreeValues.{argument_values, entry_values, value_of, value_where_bound, values_in_tuples}
 use Rattle.td_eval.specs.AggregateValues.{summary_value}
 use Rattle.td_eval.specs.ValueTypes.{IsOfType, IsTypedTuple, KeepsType}
 use Rattle.td_eval.specs.Worlds.{World, innermost_value, known_outcome, name_value, selector_outcome, with_tuples}
 use Rattle.td_eval.proofs.law_lemmas.TypedArguments.{arguments_typed, known_is}
-use Rattle.td_eval.proofs.code_lemmas.TypedRows.{rows_typed}
-use Rattle.td_eval.proofs.code_lemmas.TypedTrees.{innermost_typed, keeps}
+use Rattle.td_eval.proofs.code_lemmas.TypedRows.{one_typed, rows_typed}
+use Rattle.td_value.proofs.KnownValues.{has_its_type}
+use Rattle.td_eval.proofs.code_lemmas.TypedTrees.{innermost_typed, keeps, typed_behind}
 use Rattle.td_eval.specs.TreeNumbers.{HasNumbers, HaveNumbers, IsInRangeLiteral, PartsHaveNumbers}
 use Rattle.td_eval.specs.UnfailingValues.{GivesValues, UnfailingExpressionsHaveValues}
 use Rattle.td_eval.proofs.law_lemmas.StaticOperators.{comparison_static, component_static, extracted_static, headed_static, listed_static, measure_static, operator_static, postfix_static, prefix_static, tuple_from_static}
@@ -29,8 +29,9 @@ use Rattle.td_eval.proofs.law_lemmas.StaticOutcomes.{IsStatic, both_static, has_
 use Rattle.td_eval.proofs.law_lemmas.StaticRows.{AreStaticIn, extension_static, in_its_tuples, kept_static, over_its_heading, restricted_static, rows_static, setting_static, summary_static}
 use Rattle.td_tree.specs.declared.cause.Cause.TheVariants as causes
 use Rattle.td_tree.specs.Outcomes.{Outcome, Valued, Refused, value_if, with_value}
-use Rattle.td_tree.specs.Trees.{AttributeTrees, Literal, number, text, truth, table_dee, table_dum, Tree, literal, name, parentheses, prefix, extract, restriction, binary, compare, postfix, select, component, measure, aggregate, relation, headed_relation, tuple, extend, extend_setting, summarize_per, summarize_by, choice, Trees, none, more, NamedTrees, none_named, more_named, Summaries, no_summaries, counted, summed, project}
-use Rattle.td_types.specs.Headings.{made_heading}
+use Rattle.td_tree.specs.Trees.{AttributeTrees, Literal, number, text, truth, table_dee, table_dum, Tree, literal, name, parentheses, prefix, extract, restriction, binary, compare, postfix, select, component, measure, aggregate, relation, headed_relation, tuple, extend, extend_setting, summarize_per, summarize_by, choice, binding, Trees, none, more, NamedTrees, none_named, more_named, Summaries, no_summaries, counted, summed, project}
+use Rattle.td_tree.specs.WrittenTrees.{GiveNames, GivesNames, HasTexts, HaveTexts, PartsGiveNames, PartsHaveTexts}
+use Rattle.td_types.specs.Headings.{has_name, made_heading}
 use Rattle.td_types.specs.TypeLists.{DeclaredType, attributes_meant, declared_at, heading_meant}
 use Rattle.td_types.specs.Types.{Type', Attribute, Heading, pack}
 use Rattle.td_types.specs.Types as types
@@ -288,6 +289,31 @@ module _ (w : World) (scope : Scope) (k : GivesValues w scope) where
         (λ b. branch_static b (value_of w s consequent) (value_of w s alternative)
         (tree_static consequent s z.0 h n.1 x.1 m.1 z.2 (first_true (cannot_fail sc consequent) _ free))
         (tree_static alternative s z.1 h n.2 x.2 m.2 z.3 (second_true (cannot_fail sc consequent) _ free))))
+    tree_static (binding items result) s t h n x m is never =
+        bound_static items [] s t (λ inner. type_of inner result) (λ inner. cannot_fail inner result) (λ inner. value_of w inner result) h n.0 x.0 m.0 is never
+        (λ inner a e free. tree_static result inner t a n.1 x.1 m.1 e free)
+
+    -- where none of WITH's items can fail, what stands where they are in scope has a value if it has one where typed tuples are
+    bound_static : (items : NamedTrees) (before : List (List ℕ)) (s : List Tuple) (t : Type') (kind : Scope → Outcome Type') (free : Scope → Bool)
+        (given : List Tuple → Outcome Val) → AreTyped s → PartsGiveNames items → PartsHaveTexts items → PartsHaveNumbers items
+        → type_where_bound before (with_tuples scope s) items kind ≡ Valued t → none_fails_where_bound (with_tuples scope s) items free ≡ true
+        → ((inner : List Tuple) → AreTyped inner → kind (with_tuples scope inner) ≡ Valued t → free (with_tuples scope inner) ≡ true → IsStatic (given inner))
+        → IsStatic (value_where_bound w s items given)
+    bound_static none_named before s t kind free given h n x m is never inside = inside s h is never
+    bound_static (more_named a value rest) before s t kind free given h n x m is never inside =
+        let sc = with_tuples scope s in
+        let y = value_of_with (type_of sc value) (λ u. if has_name a before then misfit else type_where_bound (a ∷ before) (bound_to a u sc) rest kind) t is in
+        let behind = typed_behind (has_name a before) (type_where_bound (a ∷ before) (bound_to a y.0 sc) rest kind) t y.2 in
+        let others : none_fails_where_bound (bound_to a y.0 sc) rest free ≡ true =
+        subst (λ o. none_fails_where_bound (behind_item a o sc) rest free ≡ true) y.1 (second_true (cannot_fail sc value) _ never) in
+        kept_static ds (type_of sc value) (value_of w s value) y.0 (λ v. value_where_bound w (((a, v) ∷ []) ∷ s) rest given)
+        (keeps w scope k.keeps value s h n.1 x.0) y.1
+        (tree_static value s y.0 h n.1 x.0 m.0 y.1 (first_true (cannot_fail sc value) _ never))
+        (λ v q.
+        let own : y.0 ≡ values.type_of v = sym (has_its_type ds v y.0 q.1) in
+        bound_static rest (a ∷ before) (((a, v) ∷ []) ∷ s) t kind free given (one_typed ds a v y.0 n.0 q, h) n.2 x.1 m.1
+        (subst (λ u. type_where_bound (a ∷ before) (bound_to a u sc) rest kind ≡ Valued t) own behind)
+        (subst (λ u. none_fails_where_bound (bound_to a u sc) rest free ≡ true) own others) inside)
 
     arguments_static : (es : Trees) (s : List Tuple) (ts : List Type') → AreTyped s → GiveNames es → HaveTexts es → HaveNumbers es
         → types_of (with_tuples scope s) es ≡ Valued ts → all_cannot_fail (with_tuples scope s) es ≡ true → IsStatic (argument_values w s es)

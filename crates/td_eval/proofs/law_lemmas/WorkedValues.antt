@@ -145,6 +145,31 @@ set_twice : named_cause (value (trees.extend_setting (of_integers trees.none) (t
     ≡ Some causes.Heading
 set_twice = refl
 
+-- ---- WITH
+
+abbrev sum_of : Tree → Tree → Tree
+sum_of a b = trees.binary a operators.Add b
+
+-- a later item sees the earlier ones, and the result sees them all
+later_sees : value (trees.binding (trees.more_named attribute_a (digit 1) (trees.more_named (66 ∷ []) (sum_of (trees.name attribute_a) (digit 1)) trees.none_named))
+    (sum_of (trees.name attribute_a) (trees.name (66 ∷ [])))) ≡ Valued (integer (pos 3))
+later_sees = refl
+
+-- the innermost of a name is meant
+inner_hides : value (trees.binding (trees.more_named attribute_a (digit 1) trees.none_named)
+    (trees.binding (trees.more_named attribute_a (sum_of (trees.name attribute_a) (digit 1)) trees.none_named) (trees.name attribute_a))) ≡ Valued (integer (pos 2))
+inner_hides = refl
+
+-- an item counts, also where its name is not mentioned
+unmentioned_counts : named_cause (value (trees.binding (trees.more_named attribute_a (trees.binary (digit 1) operators.Divide (digit 0)) trees.none_named) (digit 1)))
+    ≡ Some causes.ZeroDivisor
+unmentioned_counts = refl
+
+-- the first item that has no value decides: ZERO_DIVISOR, though OVERFLOW is less
+first_decides : named_cause (value (trees.binding (trees.more_named attribute_a (trees.binary (digit 1) operators.Divide (digit 0))
+    (trees.more_named (66 ∷ []) (sum_of (digit (2 ^ 63 - 1)) (digit 1)) trees.none_named)) (digit 1))) ≡ Some causes.ZeroDivisor
+first_decides = refl
+
 -- ---- UNGROUP and TCLOSE
 
 abbrev attribute_k : List ℕ

@@ -21,17 +21,18 @@ use Rattle.td_parse.specs.ReadingSteps.{◌>>=◌, either, ReadOf, expect}
 
 -- how tightly a level binds: more than each looser one
 abbrev pub tightness : Level → ℕ
-tightness levels.Restriction = 0
-tightness levels.Disjunction = 1
-tightness levels.Conjunction = 2
-tightness levels.Negation = 3
-tightness levels.Comparison = 4
-tightness levels.Relational = 5
-tightness levels.Additive = 6
-tightness levels.Multiplicative = 7
-tightness levels.Prefixed = 8
-tightness levels.Postfixed = 9
-tightness levels.Primary = 10
+tightness levels.Binding = 0
+tightness levels.Restriction = 1
+tightness levels.Disjunction = 2
+tightness levels.Conjunction = 3
+tightness levels.Negation = 4
+tightness levels.Comparison = 5
+tightness levels.Relational = 6
+tightness levels.Additive = 7
+tightness levels.Multiplicative = 8
+tightness levels.Prefixed = 9
+tightness levels.Postfixed = 10
+tightness levels.Primary = 11
 
 -- ---- between operands: an operator or a comparison
 

@@ -57,6 +57,7 @@ abbrev mutual
   IsSound ps (p.SummarizeBy' _ operand by attributes aggregates slot _ values) = IsSound ps operand × IsSoundRow ps values
   IsSound ps (p.If' _ condition _ consequent _ alternative) =
       IsSound ps condition × IsSound ps consequent × IsSound ps alternative
+  IsSound ps (p.Bound' slot _ items _ result) = IsSoundRow ps items × IsSound ps result
   IsSound ps (p.Once' place reach _ part) = IsPart ps place reach (step_view part) × IsSound ps part
 
   pub IsSoundRow : Parts → {m : _} → Row_of-Step m → Type 0

@@ -2,7 +2,8 @@
 use Rattle.std.specs.declared.alloc.AllocError.{AllocError}
 use Rattle.std.specs.Global.{Box, Vec}
 use Rattle.std.specs.Prelude.{◌≡◌, ℕ, true, IfOk, List, [], ◌∷◌, Option, Some, None, Result, ⊤}
-use Rattle.td_check.specs.Scopes.{Scope}
+use Rattle.td_check.specs.Scopes.{Scope, bound_to}
+use Rattle.td_check.specs.StaticTypes.{type_of}
 use Rattle.td_plan.specs.declared.making.in_tuples.NewColumns.{NewColumns}
 use Rattle.td_plan.specs.declared.plan.step.Step.{Step}
 use Rattle.td_plan.specs.Plans.{PlanTrees, none, more}
@@ -15,7 +16,7 @@ use Rattle.td_tree.specs.Outcomes.{Outcome, Valued}
 use Rattle.td_tree.specs.code.TreeViews.{tree_view}
 use Rattle.td_tree.specs.Trees.{Tree, literal, truth}
 use Rattle.td_tree.specs.Trees as trees
-use Rattle.td_types.specs.Types.{Attribute}
+use Rattle.td_types.specs.Types.{Attribute, Type'}
 use Rattle.td_types.specs.code.Views.{pairs_view}
 
 -- plans of these expressions, one for each
@@ -69,6 +70,18 @@ item_tree (summaries.Of op value name) = tree_view value
 abbrev pub names_in : trees.NamedTrees → List (List ℕ)
 names_in trees.none_named = []
 names_in (trees.more_named n e es) = n ∷ names_in es
+
+-- ---- WITH's items
+
+-- each step is a plan of the tuple that an item is, where the items before it are in scope; the last scope is that behind all
+abbrev pub AreItemsPlanned : Scope → List Step → trees.NamedTrees → Scope → Type 0
+AreItemsPlanned scope [] trees.none_named last = last ≡ scope
+AreItemsPlanned scope [] (trees.more_named n e es) last = ⊥
+AreItemsPlanned scope (p ∷ ps) trees.none_named last = ⊥
+AreItemsPlanned scope (p ∷ ps) (trees.more_named n e es) last =
+    (t : Type') × (type_of scope e ≡ Valued t)
+    × IsPlanOfTyped scope (step_view p) (trees.tuple (trees.more_named n e trees.none_named))
+    × AreItemsPlanned (bound_to n t scope) ps es last
 
 -- ---- in the tuples of a relation
 

@@ -18,6 +18,10 @@ AreAmong names others = (j : ℕ) → Contains names j → Contains others j
 abbrev pub AreAmongBut : ℕ → List ℕ → List ℕ → Type 0
 AreAmongBut slot names others = (j : ℕ) → Contains names j → (j ≡ slot) ⊎ Contains others j
 
+-- all that are before the slot are among the others
+abbrev pub AreAmongBefore : ℕ → List ℕ → List ℕ → Type 0
+AreAmongBefore slot names others = (j : ℕ) → Contains names j → j < slot → Contains others j
+
 abbrev pub AreAllAmong : List (List ℕ) → List ℕ → Type 0
 AreAllAmong [] others = ⊤
 AreAllAmong (names ∷ rest) others = AreAmong names others × AreAllAmong rest others
@@ -93,3 +97,10 @@ pub record AreRememberedInsideBoth (a b : ℕ) (slot : ℕ) (names : List ℕ) (
   pub right_on : IsOn names (step_view r)
   pub on : (inner : List ℕ) × AreOn inner (steps_view olds) × AreAmongBut slot inner names
   pub placed : Placed a b (λ ps. IsSound ps new_l × IsSound ps new_r × AreSound ps news)
+
+-- tuples in slots from this one on, and a step where they are in scope: together they name these slots before it
+pub record AreRememberedBound (a b : ℕ) (slot : ℕ) (names : List ℕ) (old : Step) (olds : List Step) (new : Step) (news : List Step) : Type 0 where
+  pub value : step_view new ≡ step_view old
+  pub views : steps_view news ≡ steps_view olds
+  pub on : (inner : List ℕ) × IsOn inner (step_view old) × AreOn inner (steps_view olds) × AreAmongBefore slot inner names
+  pub placed : Placed a b (λ ps. AreSound ps news × IsSound ps new)

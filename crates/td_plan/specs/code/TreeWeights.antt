@@ -29,6 +29,7 @@ abbrev mutual
   weight (trees.summarize_per operand per summaries) = suc (weight operand + weight per + summaries_weight summaries)
   weight (trees.summarize_by operand by summaries) = suc (weight operand + summaries_weight summaries)
   weight (trees.choice condition consequent alternative) = suc (weight condition + weight consequent + weight alternative)
+  weight (trees.binding items result) = suc (named_weight items + weight result)
 
   pub weights : trees.Trees → ℕ
   weights trees.none = 0

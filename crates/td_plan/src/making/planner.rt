@@ -3,7 +3,7 @@ ghost use Rattle.std.specs.Prelude.{◌≡◌, IfNone, IfOk, IfSome, List, OnOk,
 ghost use Rattle.std.specs.Prelude.{reverse};
 ghost use Rattle.std.specs.List.{slice_get};
 ghost use Rattle.td_catalog.specs.Database.{Database, database_scope};
-ghost use Rattle.td_check.specs.Scopes.{entered_with};
+ghost use Rattle.td_check.specs.Scopes.{bound_to, entered_with};
 ghost use Rattle.td_check.specs.StaticTypes.{named_types, type_of};
 ghost use Rattle.td_plan.specs.code.Planners.{IsPlanner, attribute_place, catalog_database};
 ghost use Rattle.td_plan.specs.code.Planners.{is_named, place_in};
@@ -13,7 +13,7 @@ ghost use Rattle.td_tree.specs.Outcomes.{Answers, Valued};
 ghost use Rattle.td_tree.specs.code.TreeViews.{named_view, tree_view};
 ghost use Rattle.td_types.specs.Types as types;
 ghost use Rattle.td_types.specs.Types.{Attribute, Heading, pack};
-ghost use Rattle.td_types.specs.code.Views.{pairs_view};
+ghost use Rattle.td_types.specs.code.Views.{pairs_view, type_view};
 
 use std::alloc::{AllocError, Global};
 use td_body::body::Body;
@@ -183,6 +183,19 @@ impl<'a, C: Known> Planner<'a, C> {
         Ok(planner)
     }
 
+    /// Where the same tuples are in hand.
+    pub(crate) fn again(&self) -> Result<Planner<'a, C>, AllocError>
+        requires { IsPlanner C.database self.now }
+        ensures planner { IfOk result (λ p. IsPlanner C.database p) }
+        ensures scope { IfOk result (λ p. p.scope ≡ self.now.scope) }
+    {
+        let mut again = Planner::outside(self.alloc, self.catalog, self.replaced);
+        for outer in &self.headings {
+            again.enter(outer)?;
+        }
+        Ok(again)
+    }
+
     /// Where a further tuple, of the heading, is in hand.
     #[inline(never)]
     pub(crate) fn inner_planner(&self, heading: &Heading) -> Result<Planner<'a, C>, AllocError>
@@ -190,12 +203,20 @@ impl<'a, C: Known> Planner<'a, C> {
         ensures planner { IfOk result (λ p. IsPlanner C.database p) }
         ensures scope { IfOk result (λ p. p.scope ≡ entered_with heading.now self.now.scope) }
     {
-        let mut inner = Planner::outside(self.alloc, self.catalog, self.replaced);
-        for outer in &self.headings {
-            inner.enter(outer)?;
-        }
+        let mut inner = self.again()?;
         inner.enter(heading)?;
         Ok(inner)
+    }
+
+    /// The value of an expression of the type comes into scope by the name.
+    pub(crate) fn bind(&mut self, name: &Name, ty: Ty) -> Result<(), AllocError>
+        requires { IsPlanner C.database self.old }
+        ensures planner { OnOk result (IsPlanner C.database self.new) }
+        ensures scope { OnOk result
+            (self.new.scope ≡ bound_to name.now (type_view ty) self.old.scope) }
+    {
+        let heading = Heading::empty(self.alloc).add(name.try_clone()?, ty)?;
+        self.enter(&heading)
     }
 
     /// The slot of a further tuple, which is how many are in scope.
@@ -212,6 +233,20 @@ impl<'a, C: Known> Planner<'a, C> {
         ensures { result ≡ attribute_place name.now self.now.scope.entered }
     {
         innermost_place(&self.headings, name)
+    }
+
+    /// The type of an expression, if it has one.
+    pub(crate) fn type_of(&self, expr: &Expr) -> Result<Option<Ty>, AllocError>
+        ensures some { IfOk result (λ found. IfSome found (λ t.
+            type_of self.now.scope (tree_view expr.now) ≡ Valued (type_view t))) }
+        ensures none { IfOk result (λ found. IfNone found ((t : types.Type')
+            → type_of self.now.scope (tree_view expr.now) ≡ Valued t → ⊥)) }
+    {
+        match check_expr(&self.scope, expr) {
+            Ok(ty) => Ok(Some(ty)),
+            Err(Fault::Refused(_)) => Ok(None),
+            Err(Fault::Memory) => Err(AllocError),
+        }
     }
 
     /// The heading of the relations that are an expression's values.

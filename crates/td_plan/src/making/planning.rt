@@ -351,6 +351,7 @@ where
                 self.boxed_step(consequent),
                 self.boxed_step(alternative),
             ),
+            Expr::With(items, value) => self.bound_step(items, value),
         }
     }
 

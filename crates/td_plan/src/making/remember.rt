@@ -4,7 +4,8 @@ ghost use Rattle.std.specs.Prelude.{◌≡◌, ◌<◌, ◌^◌, ◌-◌, ◌∷
 ghost use Rattle.td_plan.specs.code.Memos.{IsRunnable};
 ghost use Rattle.td_plan.specs.code.Remembered.{AreAllAmong, AreAmong, AreAmongBut, AreBefore};
 ghost use Rattle.td_plan.specs.code.Remembered.{AreEachKept, AreEachRemembered, AreRemembered};
-ghost use Rattle.td_plan.specs.code.Remembered.{AreAllRemembered, AreRememberedInside};
+ghost use Rattle.td_plan.specs.code.Remembered.{AreAllRemembered, AreAmongBefore};
+ghost use Rattle.td_plan.specs.code.Remembered.{AreRememberedBound, AreRememberedInside};
 ghost use Rattle.td_plan.specs.code.Remembered.{AreRememberedInsideBoth, AreThreeRemembered};
 ghost use Rattle.td_plan.specs.code.Remembered.{IsRemembered, KeepsPart};
 ghost use Rattle.td_plan.specs.code.StepViews.{step_view};
@@ -12,7 +13,7 @@ ghost use Rattle.td_plan.specs.code.StepViews.{step_view};
 mod nodes;
 
 use crate::making::remember::nodes::{
-    aggregate, choice, dyadic, extend, look_up, monadic, restriction, select, summarize_by,
+    aggregate, bound, choice, dyadic, extend, look_up, monadic, restriction, select, summarize_by,
     summarize_per,
 };
 use crate::plan::step::Step;
@@ -72,6 +73,19 @@ fn without(alloc: Global, slot: usize, names: &[usize]) -> Result<Vec<usize>, Al
     let mut others = Vec::new(alloc);
     for name in names {
         if *name != slot {
+            others.push(*name)?;
+        }
+    }
+    Ok(others)
+}
+
+/// Those before the slot.
+fn before(alloc: Global, slot: usize, names: &[usize]) -> Result<Vec<usize>, AllocError>
+    ensures { IfOk result (λ others. AreAmongBefore slot names.now others.items) }
+{
+    let mut others = Vec::new(alloc);
+    for name in names {
+        if *name < slot {
             others.push(*name)?;
         }
     }
@@ -238,6 +252,7 @@ fn named_step(alloc: Global, places: &mut usize, step: Step) -> Result<NamedStep
         Step::If(condition, consequent, alternative) => {
             choice(alloc, places, condition, consequent, alternative)
         }
+        Step::Bound(slot, items, value) => bound(alloc, places, slot, items, value),
         Step::Once {
             place: _,
             reach: _,
@@ -384,6 +399,29 @@ pub(crate) fn all_inside_both(
     keep_part(alloc, places, per, &second, reach_of(&first))?;
     keep_part(alloc, places, operand, &first, reach)?;
     joined(first, &second)
+}
+
+/// Keeps the answers of parts of tuples that come into slots from this one on, and of what stands
+/// where they are in scope.
+#[cycle(remember)]
+pub(crate) fn all_bound(
+    alloc: Global,
+    places: &mut usize,
+    slot: usize,
+    items: &mut Vec<Step>,
+    value: &mut Step,
+) -> Result<Vec<usize>, AllocError>
+    ensures { IfOk result (λ names. AreRememberedBound places.old places.new slot names.items
+        value.old items.old.items value.new items.new.items) }
+{
+    let own = remember(alloc, places, value)?;
+    let each = remember_all(alloc, places, items)?;
+    let inner = joined(union_of(alloc, &each)?, &own)?;
+    let names = before(alloc, slot, &inner)?;
+    let reach = reach_of(&names);
+    keep_part(alloc, places, value, &own, reach)?;
+    keep_all(alloc, places, items, &each, reach)?;
+    Ok(names)
 }
 
 /// A step with the parts whose answers are kept, and how many places these have.

@@ -86,6 +86,10 @@ impl Outline {
                 self.one(inner, "THEN", consequent)?;
                 self.one(inner, "ELSE", alternative)
             }
+            Step::Bound(_, items, value) => {
+                self.list(indent, "WITH", items)?;
+                self.one(inner, "VALUE", value)
+            }
             Step::Once {
                 place: _,
                 reach: _,

@@ -3,7 +3,6 @@ ghost use Rattle.std.specs.List.{list_any};
 ghost use Rattle.std.specs.Prelude.{◌≡◌, IfOk, IfSome, IsTrue, suc};
 ghost use Rattle.td_check.specs.CannotFail as unfailing;
 ghost use Rattle.td_check.specs.Scopes.{Scope};
-ghost use Rattle.td_eval.specs.ValueTypes.{IsWritten};
 ghost use Rattle.td_plan.specs.Fixing.{AreOneWhere, HasTypeOf, IsNamedApart, MayFix};
 ghost use Rattle.td_plan.specs.Narrowing.{AreFixed, Implies, IsFixedTo};
 ghost use Rattle.td_plan.specs.code.PlansBelow.{PlansBelow};
@@ -14,6 +13,7 @@ ghost use Rattle.td_tree.specs.declared.operator.Operator.TheVariants as operato
 ghost use Rattle.td_tree.specs.code.TreeViews.{tree_view};
 ghost use Rattle.td_tree.specs.Trees as trees;
 ghost use Rattle.td_tree.specs.Trees.{Tree};
+ghost use Rattle.td_tree.specs.WrittenTrees.{IsWritten};
 ghost use Rattle.td_types.specs.Headings.{has_attribute};
 ghost use Rattle.td_types.specs.Types.{Heading};
 

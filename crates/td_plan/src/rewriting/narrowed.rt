@@ -4,7 +4,6 @@ ghost use Rattle.std.specs.List.{Contains, HoldsAt};
 ghost use Rattle.td_check.specs.CannotFail.{cannot_fail};
 ghost use Rattle.td_check.specs.Scopes.{entered_with};
 ghost use Rattle.td_eval.specs.TreeNumbers.{HasNumbers};
-ghost use Rattle.td_eval.specs.ValueTypes.{IsWritten};
 ghost use Rattle.td_plan.specs.declared.rewriting.fixed.FixedValue.{FixedValue};
 ghost use Rattle.td_plan.specs.LookUps.{IsBase, MeansName};
 ghost use Rattle.td_plan.specs.Narrowing.{AreFixed, MayNarrow};
@@ -13,6 +12,7 @@ ghost use Rattle.td_plan.specs.Plans as plans;
 ghost use Rattle.td_plan.specs.code.StepViews.{step_view, steps_view};
 ghost use Rattle.td_tree.specs.code.TreeViews.{tree_view};
 ghost use Rattle.td_tree.specs.Trees.{Tree};
+ghost use Rattle.td_tree.specs.WrittenTrees.{IsWritten};
 ghost use Rattle.td_types.specs.Headings.{projection};
 ghost use Rattle.td_types.specs.Types.{attribute_names};
 

@@ -60,6 +60,7 @@ pub(crate) fn has_numbers(expr: &Expr) -> bool
         Expr::If(condition, consequent, alternative) => {
             has_numbers(condition) && has_numbers(consequent) && has_numbers(alternative)
         }
+        Expr::With(items, value) => parts_have_numbers(items) && has_numbers(value),
     }
 }
 

@@ -128,7 +128,11 @@ fn set(rows: &mut Vec<Option<Tuple>>, slot: usize, row: Option<Tuple>)
 }
 
 /// Puts a tuple into a slot.
-fn put(rows: &mut Vec<Option<Tuple>>, slot: usize, row: Option<Tuple>) -> Result<(), AllocError>
+pub(crate) fn put(
+    rows: &mut Vec<Option<Tuple>>,
+    slot: usize,
+    row: Option<Tuple>,
+) -> Result<(), AllocError>
     ensures { OnOk result
         (slots_in rows.new.items ≡ with_slot slot (cells_of row) (slots_in rows.old.items)) }
 {

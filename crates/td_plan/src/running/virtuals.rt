@@ -1,8 +1,8 @@
 //! The virtual relvars that expressions may need, each of them evaluated once.
 ghost use Rattle.std.specs.Prelude.{◌≡◌, IfOk, IfSome};
+ghost use Rattle.td_catalog.specs.WrittenDefinitions.{DefinitionsAreWritten};
 ghost use Rattle.td_eval.specs.DatabaseWorlds.{world_of};
 ghost use Rattle.td_eval.specs.code.Sights.{world_in};
-ghost use Rattle.td_eval.specs.ValueTypes.{DefinitionsAreWritten};
 ghost use Rattle.td_eval.specs.Worlds.{known_outcome};
 ghost use Rattle.td_plan.specs.code.Hands.{AreValued};
 ghost use Rattle.td_tree.specs.Outcomes.{Answers};

@@ -1,6 +1,6 @@
 use Rattle.std.proofs.Common.{ap, ◌∙◌}
 use Rattle.td_tree.proofs.code_lemmas.Pushes.{one_more, one_tree, then_trees, trees_push, one_named, then_named, named_push, one_summary, then_summaries, summaries_push}
-use Rattle.td_tree.proofs.code_lemmas.Rows.{copied_as, extend_is, extend_setting_is, headed_relation_is, relation_is, select_is, summarize_by_is, summarize_per_is, tuple_is}
+use Rattle.td_tree.proofs.code_lemmas.Rows.{binding_is, copied_as, extend_is, extend_setting_is, headed_relation_is, relation_is, select_is, summarize_by_is, summarize_per_is, tuple_is}
 use Rattle.td_tree.specs.Trees as trees
 use Rattle.td_tree.specs.code.TreeViews.{named_view, summaries_view, tree_view, trees_view}
 use Rattle.td_tree.proofs.+copy.Goals as goal
@@ -49,3 +49,6 @@ expression::Expr::try_clone-returns-in-SummarizePer t c = copied_as _ _ _ (c.sum
 
 pub expression::Expr::try_clone-returns-in-SummarizeBy : goal.expression::Expr::try_clone-returns-in-SummarizeBy
 expression::Expr::try_clone-returns-in-SummarizeBy t c = copied_as _ _ _ (c.summarize_by.ensures _ _ _ c.box_with_copy-in-SummarizeBy.ensures c.try_clone-in-SummarizeBy.ensures c.copy_summaries-in-SummarizeBy.ensures) (ap tree_view c.in-SummarizeBy.is ∙ summarize_by_is c.in-SummarizeBy.operand c.in-SummarizeBy.by c.in-SummarizeBy.added)
+
+pub expression::Expr::try_clone-returns-in-With : goal.expression::Expr::try_clone-returns-in-With
+expression::Expr::try_clone-returns-in-With t c = copied_as _ _ _ (c.binding.ensures _ _ c.copy_parts-in-With.ensures c.box_with_copy-in-With.ensures) (ap tree_view c.in-With.is ∙ binding_is c.in-With.items c.in-With.result)

@@ -1,6 +1,6 @@
 use Rattle.std.proofs.Common.{◌≡◌, ◌⊎◌, inl, inr, ◌+◌, ◌∙◌, ap, arith, max}
 use Rattle.std.specs.Global.{Box, Vec}
-use Rattle.td_tree.proofs.code_lemmas.Rows.{extend_is, extend_setting_is, headed_relation_is, relation_is, select_is, summarize_by_is, summarize_per_is, tuple_is}
+use Rattle.td_tree.proofs.code_lemmas.Rows.{binding_is, extend_is, extend_setting_is, headed_relation_is, relation_is, select_is, summarize_by_is, summarize_per_is, tuple_is}
 use Rattle.td_tree.specs.declared.expression.Expr.{Expr}
 use Rattle.td_tree.specs.declared.expression.Expr.TheVariants as e
 use Rattle.td_tree.specs.declared.expression.NamedExpr.{NamedExpr}
@@ -68,4 +68,12 @@ expression::Expr::highest_part-returns-in-SummarizeBy t c =
     let e = ap height (ap tree_view c.in-SummarizeBy.is ∙ summarize_by_is c.in-SummarizeBy.operand c.in-SummarizeBy.field-1 c.in-SummarizeBy.summaries) in
     let o = ap (λ x. height (tree_view x)) c.deref-in-SummarizeBy.ensures in
     let a = ap (λ x. highest_summary (summaries_view x)) c.deref-in-SummarizeBy-2.ensures.value in
+    omega arith
+
+pub expression::Expr::highest_part-returns-in-With :
+    goal.expression::Expr::highest_part-returns-in-With
+expression::Expr::highest_part-returns-in-With t c =
+    let e = ap height (ap tree_view c.in-With.is ∙ binding_is c.in-With.items c.in-With.result) in
+    let a = ap (λ x. highest_named (named_view x)) c.deref-in-With.ensures.value in
+    let r = ap (λ x. height (tree_view x)) c.deref-in-With-2.ensures in
     omega arith

@@ -88,6 +88,9 @@ extend_is b v = ap (trees.extend (tree_view b.value)) (parts_are v)
 pub extend_setting_is : (b : Box Expr) (v : Vec NamedExpr) → tree_view (e.ExtendSetting b v) ≡ trees.extend_setting (tree_view b.value) (named_view v.items)
 extend_setting_is b v = ap (trees.extend_setting (tree_view b.value)) (parts_are v)
 
+pub binding_is : (v : Vec NamedExpr) (b : Box Expr) → tree_view (e.With v b) ≡ trees.binding (named_view v.items) (tree_view b.value)
+binding_is v b = ap (λ items. trees.binding items (tree_view b.value)) (parts_are v)
+
 pub summarize_per_is : (b p : Box Expr) (v : Vec Summary) → tree_view (e.SummarizePer b p v) ≡ trees.summarize_per (tree_view b.value) (tree_view p.value) (summaries_view v.items)
 summarize_per_is b p v =
     let row = summary_row (e.SummarizePer b p v) in

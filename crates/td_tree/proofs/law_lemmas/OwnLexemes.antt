@@ -101,6 +101,7 @@ name_last a n items = sym (append_assoc (lexemes_of a ++ (sign signs.CloseParent
 mutual
   pub expression_is : {level : Level} {xs : List Lexeme} {t : Tree} → Spelling level xs t → xs ≡ lexemes_of t
   expression_is (g.looser p) = expression_is p
+  expression_is (g.binding p q) = rw (settings_are p, expression_is q) refl
   expression_is (g.restriction p q) = rw (expression_is p, expression_is q) refl
   expression_is (g.between p q) = rw (expression_is p, expression_is q) refl
   expression_is (g.negation p) = rw (expression_is p) refl

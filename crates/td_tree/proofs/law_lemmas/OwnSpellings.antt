@@ -47,6 +47,7 @@ at_level levels.Negation xs a p = g.looser (g.looser (g.looser (g.looser (g.loos
 at_level levels.Conjunction xs a p = g.looser (g.looser (g.looser (g.looser (g.looser (g.looser (g.looser (g.looser p)))))))
 at_level levels.Disjunction xs a p = g.looser (g.looser (g.looser (g.looser (g.looser (g.looser (g.looser (g.looser (g.looser p))))))))
 at_level levels.Restriction xs a p = g.looser (g.looser (g.looser (g.looser (g.looser (g.looser (g.looser (g.looser (g.looser (g.looser p)))))))))
+at_level levels.Binding xs a p = g.looser (g.looser (g.looser (g.looser (g.looser (g.looser (g.looser (g.looser (g.looser (g.looser (g.looser p))))))))))
 
 -- its lexemes spell it
 abbrev pub IsSpelled : Tree → Type 0

@@ -110,6 +110,7 @@ plain_comparison _ = tt
 mutual
   pub plain : {level : Level} {xs : List Lexeme} {t : Tree} → Spelling level xs t → AllPlain xs
   plain (g.looser p) = plain p
+  plain (g.binding p q) = (also tt (join (in_parentheses (plain_settings p)) (also tt (plain q))))
   plain (g.restriction p q) = join (plain p) (also tt (plain q))
   plain (g.between {op} p q) = join (plain p) (join (plain_operator op) (plain q))
   plain (g.negation p) = (also tt (plain p))

@@ -5,7 +5,7 @@ use Rattle.std.specs.Coded.{Coded, code_by}
 use base.Stored.{Gv, gnil, gnum, gcons}
 use denote.Struct.Codes.{itself}
 use Rattle.td_tree.specs.code.NodeCode.{aggregate_number, aggregate_numbered, aggregate_back, attributes_to, attributes_from, attributes_back, bytes_to, bytes_from, bytes_back, comparison_number, comparison_numbered, comparison_back, literal_to, literal_from, literal_back, measure_number, measure_numbered, measure_back, number_in, operator_number, operator_numbered, operator_back, postfix_to, postfix_from, postfix_back, prefix_number, prefix_numbered, prefix_back}
-use Rattle.td_tree.specs.Trees.{TypeTree, AttributeTrees, no_attributes, Tree, literal, name, parentheses, prefix, extract, restriction, binary, compare, postfix, select, component, measure, aggregate, relation, headed_relation, tuple, extend, extend_setting, summarize_per, summarize_by, choice, Trees, none, more, NamedTrees, none_named, more_named, Summaries, no_summaries, counted, summed}
+use Rattle.td_tree.specs.Trees.{TypeTree, AttributeTrees, no_attributes, Tree, literal, name, parentheses, prefix, extract, restriction, binary, compare, postfix, select, component, measure, aggregate, relation, headed_relation, tuple, extend, extend_setting, summarize_per, summarize_by, choice, binding, Trees, none, more, NamedTrees, none_named, more_named, Summaries, no_summaries, counted, summed}
 use Rattle.td_tree.specs.Trees as t
 
 -- a node: its number and its three parts
@@ -82,6 +82,7 @@ abbrev mutual
   tree_to (extend_setting operand settings) = node 20 (tree_to operand) (named_to settings) gnil
   tree_to (choice condition consequent alternative) =
       node 19 (tree_to condition) (tree_to consequent) (tree_to alternative)
+  tree_to (binding items result) = node 21 (named_to items) (tree_to result) gnil
 
   trees_to : Trees → Gv
   trees_to none = gnil
@@ -120,6 +121,7 @@ abbrev mutual
       else if n == 16 then summarize_per (tree_from a) (tree_from b) (summaries_from c)
       else if n == 17 then summarize_by (tree_from a) (attributes_from b) (summaries_from c)
       else if n == 18 then restriction (tree_from a) (tree_from b)
+      else if n == 21 then binding (named_from a) (tree_from b)
       else choice (tree_from a) (tree_from b) (tree_from c)
   tree_from _ = literal t.table_dee
 
@@ -166,6 +168,7 @@ mutual
       λ i. summarize_by (tree_back operand i) (attributes_back by i) (summaries_back summaries i)
   tree_back (choice condition consequent alternative) =
       λ i. choice (tree_back condition i) (tree_back consequent i) (tree_back alternative i)
+  tree_back (binding items result) = λ i. binding (named_back items i) (tree_back result i)
 
   trees_back : (es : Trees) → trees_from (trees_to es) ≡ es
   trees_back none = refl

@@ -94,6 +94,7 @@ abbrev mutual
       trees.summarize_by (tree_view operand) (attributes_view by) (summaries_row summaries)
   tree_view (e.If' _ condition _ consequent _ alternative) =
       trees.choice (tree_view condition) (tree_view consequent) (tree_view alternative)
+  tree_view (e.With' _ items _ result) = trees.binding (named_row items) (tree_view result)
 
   pub trees_row : {m : _} → Row_of-Expr m → trees.Trees
   trees_row end_of-Expr = trees.none

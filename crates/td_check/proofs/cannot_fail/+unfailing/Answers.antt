@@ -4,7 +4,7 @@ use Rattle.td_check.proofs.CannotFail.{elements_unfailing, extended_unfailing, w
 use Rattle.td_check.proofs.cannot_fail.+unfailing.Goals as goal
 use Rattle.td_check.proofs.cannot_fail.+unfailing.Goals.{unfailing-else-items_cannot_fail, unfailing-then-items_cannot_fail}
 use Rattle.td_check.specs.CannotFail.{items_cannot_fail, parts_unfailing, unfailing}
-use Rattle.td_tree.proofs.code_lemmas.Rows.{select_is, summarize_by_is, summarize_per_is, tuple_is}
+use Rattle.td_tree.proofs.code_lemmas.Rows.{binding_is, select_is, summarize_by_is, summarize_per_is, tuple_is}
 use Rattle.td_tree.specs.code.TreeViews.{attributes_view, named_view, summaries_view, tree_view, trees_view}
 use Rattle.td_tree.specs.Trees as trees
 
@@ -65,3 +65,13 @@ unfailing-returns-then-unfailing-5 t c =
     let ds = c.args.types.now in
     let is = extended_unfailing ds c.args.expr.now c.in-Extend.operand c.in-Extend.parts c.in-Extend.is ∙ (λ i. unfailing ds (tree_view (sym c.deref-in-Extend.ensures i)) && parts_unfailing ds (named_view (sym c.deref-then-unfailing-5.ensures.value i))) in
     c.parts_unfailing-then-unfailing-5.ensures ∙ when_true _ _ _ c.if-unfailing-5.true c.unfailing-in-Extend.ensures ∙ sym is
+
+pub unfailing-returns-then-parts_unfailing : goal.unfailing-returns-then-parts_unfailing
+unfailing-returns-then-parts_unfailing t c =
+    let is = ap tree_view c.in-With.is ∙ binding_is c.in-With.items c.in-With.result ∙ (λ i. trees.binding (named_view (sym c.deref-in-With.ensures.value i)) (tree_view (sym c.deref-then-parts_unfailing.ensures i))) in
+    c.unfailing-then-parts_unfailing.ensures ∙ when_true _ _ _ c.if-parts_unfailing.true c.parts_unfailing-in-With.ensures ∙ ap (unfailing c.args.types.now) (sym is)
+
+pub unfailing-returns-else-parts_unfailing : goal.unfailing-returns-else-parts_unfailing
+unfailing-returns-else-parts_unfailing t c =
+    let is = ap tree_view c.in-With.is ∙ binding_is c.in-With.items c.in-With.result ∙ ap (λ xs. trees.binding (named_view xs) (tree_view c.in-With.result.value)) (sym c.deref-in-With.ensures.value) in
+    when_false _ _ _ c.if-parts_unfailing.false c.parts_unfailing-in-With.ensures ∙ ap (unfailing c.args.types.now) (sym is)

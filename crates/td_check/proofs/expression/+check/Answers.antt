@@ -2,14 +2,16 @@ use Rattle.std.proofs.Common.{◌≡◌, ◌∙◌, ◌∷◌, ◌++◌, [], ℕ
 use Rattle.std.proofs.lemmas.List.{append-nil}
 use Rattle.std.proofs.lemmas.Result.{err_from_is_err_and}
 use Rattle.std.specs.Global.{Vec}
-use Rattle.td_check.specs.code.CheckViews.{added_view, choice_of, headed_view, item_found, names_view, part_found, per_view, by_summary, per_summary, three_types_view, types_view, with_names}
+use Rattle.std.specs.Prelude.{OnOk}
+use Rattle.td_check.specs.code.CheckViews.{added_view, bound_found, bounds_found, choice_of, headed_view, item_found, names_view, part_found, per_view, by_summary, per_summary, three_types_view, types_view, with_names}
 use Rattle.td_check.specs.declared.rules.lists.Item.{Item}
 use Rattle.td_check.specs.code.ItemViews.{items_view, named_item_view}
-use Rattle.td_check.specs.Mentions.{in_tuples, relvars_in, relvars_in_all, relvars_in_items, relvars_in_named, types_in, types_in_all, types_in_items, types_in_named, types_named_in}
+use Rattle.td_check.specs.Mentions.{in_tuples, relvars_in, relvars_in_all, relvars_in_items, relvars_in_named, relvars_where_bound, types_in, types_in_all, types_in_items, types_in_named, types_named_in}
 use Rattle.td_check.specs.OperatorTypes as own
-use Rattle.td_check.specs.code.PlaceViews.{scope_at}
+use Rattle.td_check.specs.code.PlaceViews.{scope_at, within_all}
 use Rattle.td_check.specs.Scopes.{entered_with}
 use Rattle.td_check.specs.StaticTypes.{items_of, named_types, type_of, types_of, with_items}
+use Rattle.td_check.proofs.CheckedBindings.{mentioned_behind, one_found, one_refused, typed_behind}
 use Rattle.td_check.proofs.CheckedItems.{held_of_added, held_of_per, in_tuples_of, items_given, items_left, items_refused, nothing_added, operand_and_items, per_after}
 use Rattle.td_check.proofs.CheckedLists.{all_answered, all_named, checked_next, none_checked}
 use Rattle.td_check.proofs.CheckedNames.{known_names, names_after, names_are, names_held, names_of_both, names_of_second}
@@ -22,9 +24,10 @@ use Rattle.td_tree.specs.Gatherings.{both_answers}
 use Rattle.td_tree.specs.Outcomes.{Answers, Valued, with_value}
 use Rattle.td_tree.specs.code.TreeViews.{attributes_view, heading_tree_view, named_view, summaries_view, tree_view, trees_view}
 use Rattle.td_tree.specs.Trees as trees
-use Rattle.td_tree.proofs.code_lemmas.Rows.{extend_is, extend_setting_is, headed_relation_is, relation_is, select_is, summarize_by_is, summarize_per_is, tuple_is}
+use Rattle.td_tree.proofs.code_lemmas.Rows.{binding_is, extend_is, extend_setting_is, headed_relation_is, relation_is, select_is, summarize_by_is, summarize_per_is, tuple_is}
 use Rattle.td_types.specs.code.Pairs.{pair_view}
 use Rattle.td_types.specs.TypeLists.{heading_meant}
+use Rattle.td_types.specs.Types.{Heading}
 use Rattle.td_types.specs.declared.ty.Ty.{Ty}
 use Rattle.td_types.specs.code.Views.{pairs_view, type_view}
 use Rattle.td_types.proofs.Resolutions.{answers_still}
@@ -437,3 +440,61 @@ check-returns-in-SummarizePer-clause-names t c =
     (operand_and_items (scope_at c.args.place.now) (tree_view c.deref-in-SummarizePer.result.now) (summaries_view c.deref-in-SummarizePer-2.result.now) c.check-operand.result c.check_items_inside-added.result n (names_view c.check-operand.new.seen) l
     c.check-operand.ensures.ty c.check-operand.ensures.names c.check_items_inside-added.ensures.operand c.check_items_inside-added.ensures.names b is some) second)
     c.check-in-SummarizePer.ensures.names)
+
+-- ---- WITH
+
+pub check_bounds-loop-item-preserved : goal.check_bounds-loop-item-preserved
+check_bounds-loop-item-preserved t c =
+    rw c.in_ok-push.ensures.items
+    (one_found (scope_at c.args.place.now) c.args.items.now (names_view c.args.seen.now) c.loop-item.bounds.items c.loop-item.item-index (names_view c.loop-item.seen)
+    c.loop-item.invariant c.item-item.result c.loop-item-test.true c.item-item.is (names_view c.check_binding.new.seen) c.in_ok-bound.bound
+    (subst (λ bs. bound_found bs (scope_at c.args.place.now) c.item-item.result ≡ Valued c.in_ok-bound.bound) c.deref.ensures.value c.in_ok-bound.ensures.heading)
+    (subst (λ bs. names_view c.check_binding.new.seen ≡ with_names (names_view c.loop-item.seen) (relvars_in (within_all bs (scope_at c.args.place.now)) (tree_view c.item-item.result.value)) (types_in (tree_view c.item-item.result.value)))
+    c.deref.ensures.value c.in_ok-bound.ensures.names))
+
+pub check_bounds-returns-in_err-bound-clause-bounds : goal.check_bounds-returns-in_err-bound-clause-bounds
+check_bounds-returns-in_err-bound-clause-bounds t c =
+    let p = err_from_is_err_and c.from_residual-in_err-bound.result c.from_residual-in_err-bound.ensures.1 in
+    rw (p.1, p.2)
+    (one_refused (scope_at c.args.place.now) c.args.items.now (names_view c.args.seen.now) c.loop-item.bounds.items c.loop-item.item-index (names_view c.loop-item.seen)
+    c.loop-item.invariant c.item-item.result c.loop-item-test.true c.item-item.is c.in_err-bound.field-0.0
+    (subst (λ bs. Answers {X = Heading} (λ h. h) (Err c.in_err-bound.field-0.0) (bound_found bs (scope_at c.args.place.now) c.item-item.result)) c.deref.ensures.value c.in_err-bound.ensures.heading))
+
+pub check-returns-in_err-bounds-in-With-clause-ty : goal.check-returns-in_err-bounds-in-With-clause-ty
+check-returns-in_err-bounds-in-With-clause-ty t c =
+    let p = err_from_is_err_and c.from_residual-in_err-bounds-in-With.result c.from_residual-in_err-bounds-in-With.ensures.1 in
+    let s = scope_at c.args.place.now in
+    let items = c.deref-in-With.result.now in
+    let inside = tree_view c.in-With.inside.value in
+    let is = ap tree_view c.in-With.is ∙ binding_is c.in-With.items c.in-With.inside ∙ ap (λ xs. trees.binding (named_view xs) inside) (sym c.deref-in-With.ensures.value) in
+    rw (p.1, p.2, is, typed_behind s items (λ u. type_of u inside))
+    (answers_still (λ (b : Vec Heading). b.items) type_view _ (bounds_found [] s items) (λ bs. type_of (within_all bs s) inside) c.in_err-bounds-in-With.ensures.bounds)
+
+pub check-returns-in_ok-inside_all-in-With-clause-ty : goal.check-returns-in_ok-inside_all-in-With-clause-ty
+check-returns-in_ok-inside_all-in-With-clause-ty t c =
+    let s = scope_at c.args.place.now in
+    let items = c.deref-in-With.result.now in
+    let inside = tree_view c.deref-in-With-2.result.now in
+    let is = ap tree_view c.in-With.is ∙ binding_is c.in-With.items c.in-With.inside
+    ∙ (λ i. trees.binding (named_view (sym c.deref-in-With.ensures.value i)) (tree_view (sym c.deref-in-With-2.ensures i))) in
+    let place = c.in_ok-inside_all-in-With.ensures ∙ ap (λ bs. within_all bs s) c.deref-in-With-3.ensures.value in
+    rw (is, typed_behind s items (λ u. type_of u inside), c.in_ok-bounds-in-With.ensures.bounds)
+    (subst (λ u. Answers type_view c.check-in-With.result (type_of u inside)) place c.check-in-With.ensures.ty)
+
+pub check-returns-in_ok-inside_all-in-With-clause-names : goal.check-returns-in_ok-inside_all-in-With-clause-names
+check-returns-in_ok-inside_all-in-With-clause-names t c =
+    let s = scope_at c.args.place.now in
+    let items = c.deref-in-With.result.now in
+    let inside = tree_view c.deref-in-With-2.result.now in
+    let is = ap tree_view c.in-With.is ∙ binding_is c.in-With.items c.in-With.inside
+    ∙ (λ i. trees.binding (named_view (sym c.deref-in-With.ensures.value i)) (tree_view (sym c.deref-in-With-2.ensures i))) in
+    let place = c.in_ok-inside_all-in-With.ensures ∙ ap (λ bs. within_all bs s) c.deref-in-With-3.ensures.value in
+    let n = names_view c.args.seen.now in
+    let m = names_view c.check_bounds.new.seen in
+    let l = names_view c.check-in-With.new.seen in
+    let ri = relvars_where_bound s (named_view items) (λ _. []) in
+    let rb = relvars_in (within_all c.in_ok-bounds-in-With.bounds.items s) inside in
+    names_are c.check-in-With.result s (tree_view c.args.expr.now) n l (ri ++ rb) (types_in_named (named_view items) ++ types_in inside)
+    (ap (relvars_in s) is ∙ mentioned_behind s items c.in_ok-bounds-in-With.bounds.items (λ u. relvars_in u inside) c.in_ok-bounds-in-With.ensures.bounds) (ap types_in is)
+    (names_of_second c.check-in-With.result n m l ri (types_in_named (named_view items)) rb (types_in inside) c.in_ok-bounds-in-With.ensures.names
+    (subst (λ u. OnOk c.check-in-With.result (l ≡ with_names m (relvars_in u inside) (types_in inside))) place c.check-in-With.ensures.names))

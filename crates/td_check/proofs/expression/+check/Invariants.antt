@@ -1,7 +1,8 @@
-use Rattle.std.proofs.Common.{map, take}
+use Rattle.std.proofs.Common.{drop, map, take}
 use Rattle.td_check.specs.code.CheckViews.{item_found, names_view, part_found}
 use Rattle.td_check.specs.code.ItemViews.{items_view}
 use Rattle.td_check.specs.code.PlaceViews.{scope_at}
+use Rattle.td_check.proofs.CheckedBindings.{IsLeft}
 use Rattle.td_check.proofs.CheckedLists.{AreChecked}
 use Rattle.td_check.proofs.CheckedRows.{relvars_of, relvars_of_item, relvars_of_part, type_found, types_of_item, types_of_one, types_of_part}
 use Rattle.td_types.specs.code.Views.{pairs_view, type_view}
@@ -21,3 +22,7 @@ abbrev pub invariant-check_named-loop-part : goal.invariant-check_named-loop-par
 invariant-check_named-loop-part l =
     AreChecked (part_found (scope_at l.place)) (relvars_of_part (scope_at l.place)) types_of_part l.causes (pairs_view l.attributes.items)
     (names_view l.initial.seen) (names_view l.seen) (take l.part-index l.parts)
+
+abbrev pub invariant-check_bounds-loop-item : goal.invariant-check_bounds-loop-item
+invariant-check_bounds-loop-item l =
+    IsLeft (scope_at l.place) l.items (names_view l.initial.seen) l.bounds.items (drop l.item-index l.items) (names_view l.seen)

@@ -5,7 +5,7 @@ use Rattle.td_check.proofs.names.+written.Goals as goal
 use Rattle.td_check.specs.WrittenNames.{names_in, names_in_named}
 use Rattle.td_tree.specs.code.TreeViews.{attributes_view, named_view, summaries_view, tree_view}
 use Rattle.td_tree.specs.Trees as trees
-use Rattle.td_tree.proofs.code_lemmas.Rows.{summarize_by_is, summarize_per_is, tuple_is}
+use Rattle.td_tree.proofs.code_lemmas.Rows.{binding_is, summarize_by_is, summarize_per_is, tuple_is}
 
 pub add_all-loop-expr-preserved : goal.add_all-loop-expr-preserved
 add_all-loop-expr-preserved t c =
@@ -72,3 +72,11 @@ add_names-returns-in-Select t c =
     weaker _ _ c.add_all.result
     (λ e. e ∙ ap (λ ns. c.args.names.now.items ++ ns) (names_of_list c.args.expr.now c.in-Select.exprs c.deref-in-Select.result.now c.in-Select.is c.deref-in-Select.ensures.value))
     c.add_all.ensures
+
+pub add_names-returns-in_ok-add_named-in-With : goal.add_names-returns-in_ok-add_named-in-With
+add_names-returns-in_ok-add_named-in-With t c =
+    let is = ap tree_view c.in-With.is ∙ binding_is c.in-With.items c.in-With.result ∙ (λ i. trees.binding (named_view (sym c.deref-in-With.ensures.value i)) (tree_view (sym c.deref-in-With-2.ensures i))) in
+    weaker _ _ c.add_names-in-With.result
+    (λ e. names_behind c.args.names.now.items c.add_named-in-With.new.names.items c.add_names-in-With.new.names.items _ _ c.in_ok-add_named-in-With.ensures e
+    ∙ ap (λ w. c.args.names.now.items ++ names_in w) (sym is))
+    c.add_names-in-With.ensures

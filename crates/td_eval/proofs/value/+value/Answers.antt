@@ -1,7 +1,8 @@
 use Rattle.std.specs.Prelude.{max, true}
-use Rattle.std.proofs.Common.{◌≡◌, ◌∙◌, [], ◌∷◌, ℕ, Err, List, ap, arith, map, option_map, refl, reverse, subst, sym, take}
+use Rattle.std.proofs.Common.{◌≡◌, ◌∙◌, ◌+◌, [], ◌∷◌, ℕ, Err, List, ap, arith, map, option_map, refl, reverse, subst, sym, take}
+use Rattle.std.proofs.lemmas.List.{reverse-append}
 use Rattle.std.proofs.lemmas.Result.{err_from_is_err_and}
-use Rattle.std.proofs.Math.Nat.{le-max_right}
+use Rattle.std.proofs.Math.Nat.{le-max_left, le-max_right}
 use Rattle.std.specs.Global.{Vec}
 use Rattle.std.specs.List.{zip}
 use Rattle.std.specs.Rc.{rc_str_bytes}
@@ -17,6 +18,7 @@ use Rattle.td_eval.proofs.code_lemmas.VirtualValues.{held_seen}
 use Rattle.td_eval.proofs.code_lemmas.WalkedAttributes.{as_many_found, columns_for}
 use Rattle.td_eval.proofs.code_lemmas.WalkedColumns.{beside_at, beside_past, beside_within, column_found, columns_are}
 use Rattle.td_eval.proofs.code_lemmas.WalkedExtension.{answers_related, types_refused}
+use Rattle.td_eval.proofs.code_lemmas.WalkedItems.{bound_from, item_next, past_items}
 use Rattle.td_eval.proofs.code_lemmas.WalkedLists.{arguments_are, as_many_parts, entries_are, entry_found, of_as_many, value_found, walked, walked_values}
 use Rattle.td_eval.proofs.code_lemmas.WalkedSettings.{types_unset}
 use Rattle.td_eval.proofs.code_lemmas.WalkedSelections.{constructed_of, mismatched}
@@ -29,7 +31,7 @@ use Rattle.td_eval.specs.code.NewColumns.{column_view, named_columns}
 use Rattle.td_eval.specs.OperatorValues.{column_values, component_value, extended_by_settings, extended_value, listed_value, on_relation, postfix_value, restricted_value, truth_value, tuple_from, value_of_type}
 use Rattle.td_eval.specs.code.Sights.{seen_by, virtuals_of}
 use Rattle.td_eval.specs.code.Totals.{term_in, total_of, total_view}
-use Rattle.td_eval.specs.TreeValues.{argument_values, entry_values, items_in_tuples, value_of, values_in_tuples}
+use Rattle.td_eval.specs.TreeValues.{argument_values, entry_values, items_in_tuples, value_of, value_where_bound, values_in_tuples}
 use Rattle.td_group.specs.declared.aggregates.Agg.{Agg}
 use Rattle.td_eval.specs.Worlds.{known_outcome, selector_outcome, with_tuples}
 use Rattle.td_tree.proofs.code_lemmas.Gatherings.{collected_next}
@@ -37,11 +39,12 @@ use Rattle.td_tree.specs.Heights.{height, highest, highest_named, highest_summar
 use Rattle.td_tree.specs.Outcomes.{Answers, Valued, gathered, named_cause, with_value}
 use Rattle.td_tree.specs.code.TreeViews.{attributes_view, heading_tree_view, named_view, summaries_view, tree_view, trees_view}
 use Rattle.td_tree.specs.Trees as trees
-use Rattle.td_tree.proofs.code_lemmas.Rows.{extend_is, extend_setting_is, headed_relation_is, relation_is, select_is, summarize_by_is, summarize_per_is, tuple_is}
+use Rattle.td_tree.proofs.code_lemmas.Rows.{binding_is, extend_is, extend_setting_is, headed_relation_is, relation_is, select_is, summarize_by_is, summarize_per_is, tuple_is}
 use Rattle.td_types.specs.declared.ty.Ty.{Ty}
 use Rattle.td_types.specs.TypeLists.{heading_meant}
 use Rattle.td_types.specs.Types.{Heading}
 use Rattle.td_types.specs.code.Views.{pairs_view, type_view}
+use Rattle.td_types.proofs.OutcomeLaws.{valued_is}
 use Rattle.td_types.proofs.Resolutions.{answers_still}
 use Rattle.td_value.specs.Values.{Tuple, Val, boolean, type_of}
 use Rattle.td_eval.proofs.value.+value.Goals as goal
@@ -598,3 +601,52 @@ value_of-returns-in_ok-projected_by-in-SummarizeBy g t c =
     c.summary-in-SummarizeBy-2.result c.in_ok-operand-in-SummarizeBy.ensures
     (answered_then (λ v. v) c.in_ok-projected_by-in-SummarizeBy.field-0 (by c.in_ok-operand-in-SummarizeBy.operand) (given c.in_ok-operand-in-SummarizeBy.operand) (λ v. v)
     c.summary-in-SummarizeBy-2.result c.in_ok-projected_by-in-SummarizeBy.ensures c.summary-in-SummarizeBy-2.ensures))
+
+-- ---- WITH
+
+pub value_of-bound-requires : goal.value_of-bound-requires
+value_of-bound-requires g t c =
+    λ κs o. (
+      (let h = ap height (ap tree_view c.in-With.is ∙ binding_is c.in-With.items c.in-With.inner ∙ (λ i. trees.binding (named_view (sym c.deref-in-With.ensures.value i)) (tree_view (sym c.deref-in-With-2.ensures i)))) in omega (arith, c.decreases, h)),
+      (o, c.requires),
+    )
+
+pub value_of-returns-in-With : goal.value_of-returns-in-With
+value_of-returns-in-With g t c =
+    let is = ap tree_view c.in-With.is ∙ binding_is c.in-With.items c.in-With.inner ∙ (λ i. trees.binding (named_view (sym c.deref-in-With.ensures.value i)) (tree_view (sym c.deref-in-With-2.ensures i))) in
+    rw is c.bound.ensures
+
+pub bound::bound-loop-item-init : goal.bound::bound-loop-item-init
+bound::bound-loop-item-init g t c =
+    let world = seen_by c.args.sight.now in
+    ap (λ s. value_where_bound world (reverse s) (named_view c.args.items.now) (λ u. value_of world u (tree_view c.args.expr.now))) (sym c.in_ok-inner.ensures)
+
+pub bound::bound-value_of-requires : goal.bound::bound-value_of-requires
+bound::bound-value_of-requires g t c =
+    λ κs o. (
+      (let h = height_named c.args.items.now c.loop-item.item-index c.item-item.result c.loop-item-test.true c.item-item.is in let low = le-max_left (highest_named (named_view c.args.items.now)) (height (tree_view c.args.expr.now)) in omega (arith, c.decreases, h, low)),
+      (o, c.requires),
+    )
+
+pub bound::bound-loop-item-preserved : goal.bound::bound-loop-item-preserved
+bound::bound-loop-item-preserved g t c =
+    let world = seen_by c.args.sight.now in
+    let inside = λ (u : List Tuple). value_of world u (tree_view c.args.expr.now) in
+    let place = c.loop-item.item-index in
+    let seen = reverse c.loop-item.inner.items in
+    let value : value_of world seen (tree_view c.item-item.result.value) ≡ Valued c.in_ok-value.value =
+    subst (λ u. value_of world (reverse u) (tree_view c.item-item.result.value) ≡ Valued c.in_ok-value.value) c.deref.ensures.value c.in_ok-value.ensures in
+    let tuple : (c.item-item.result.name, c.in_ok-value.value) ∷ [] ≡ c.in_ok-tuple_of_one.field-0 =
+    valued_is ((c.item-item.result.name, c.in_ok-value.value) ∷ []) c.in_ok-tuple_of_one.field-0 c.in_ok-tuple_of_one.ensures in
+    c.loop-item.invariant
+    ∙ item_next world inside c.args.items.now place c.item-item.result seen c.loop-item-test.true c.item-item.is
+    ∙ ap (λ o. with_value o (λ v. bound_from world inside c.args.items.now (place + 1) (((c.item-item.result.name, v) ∷ []) ∷ seen))) value
+    ∙ ap (bound_from world inside c.args.items.now (place + 1)) (ap (λ u. u ∷ seen) tuple ∙ sym (reverse-append c.loop-item.inner.items (c.in_ok-tuple_of_one.field-0 ∷ [])) ∙ ap reverse (sym c.in_ok-push.ensures.items))
+
+pub bound::bound-returns : goal.bound::bound-returns
+bound::bound-returns g t c =
+    let world = seen_by c.args.sight.now in
+    let inside = λ (u : List Tuple). value_of world u (tree_view c.args.expr.now) in
+    subst (Answers (λ (v : Val). v) c.value_of-2.result)
+    (sym (c.loop-item.invariant ∙ past_items world inside c.args.items.now c.loop-item.item-index (reverse c.loop-item.inner.items) c.loop-item-test.false))
+    (subst (λ u. Answers (λ (v : Val). v) c.value_of-2.result (value_of world (reverse u) (tree_view c.args.expr.now))) c.deref-2.ensures.value c.value_of-2.ensures)

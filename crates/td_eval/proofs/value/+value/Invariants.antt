@@ -1,20 +1,22 @@
-use Rattle.std.proofs.Common.{◌≡◌, ◌∷◌, ◌+◌, ◌*◌, map, reverse, take}
+use Rattle.std.proofs.Common.{◌≡◌, ◌∷◌, ◌+◌, ◌*◌, List, map, reverse, take}
 use Rattle.std.specs.List.{zip}
 use Rattle.std.specs.Prelude.{max}
 use Rattle.td_algebra.specs.Columns.{columns_view}
 use Rattle.td_eval.proofs.code_lemmas.Measures.{constraint_height, item_height, weight, weights}
 use Rattle.td_eval.proofs.code_lemmas.WalkedColumns.{column_found}
+use Rattle.td_eval.proofs.code_lemmas.WalkedItems.{bound_from}
 use Rattle.td_eval.proofs.code_lemmas.WalkedLists.{entry_found, value_found}
 use Rattle.td_eval.proofs.code_lemmas.WalkedTotals.{group_found, total_found}
 use Rattle.td_eval.specs.OperatorValues.{truth_value, value_of_type}
 use Rattle.td_eval.specs.code.Sights.{seen_by}
 use Rattle.td_eval.specs.code.Totals.{total_view}
-use Rattle.td_eval.specs.TreeValues.{value_of}
+use Rattle.td_eval.specs.TreeValues.{value_of, value_where_bound}
 use Rattle.td_tree.specs.Gatherings.{IsGathered}
 use Rattle.td_tree.specs.Heights.{height, highest, highest_named, highest_summary}
 use Rattle.td_tree.specs.Outcomes.{with_value}
 use Rattle.td_tree.specs.code.TreeViews.{named_view, summaries_view, tree_view, trees_view}
 use Rattle.td_types.specs.code.Views.{type_view}
+use Rattle.td_value.specs.Values.{Tuple}
 use Rattle.td_eval.proofs.value.+value.Given as goal
 
 -- ---- loops
@@ -59,6 +61,11 @@ abbrev pub invariant-summaries::totals-loop-item : goal.invariant-summaries::tot
 invariant-summaries::totals-loop-item g l =
     IsGathered l.causes (map total_view l.totals.items)
     (map (total_found (seen_by l.sight) (reverse l.tuples) l.groups) (take l.item-index l.items))
+
+abbrev pub invariant-bound::bound-loop-item : goal.invariant-bound::bound-loop-item
+invariant-bound::bound-loop-item g l =
+    let inside = λ (u : List Tuple). value_of (seen_by l.sight) u (tree_view l.expr) in
+    value_where_bound (seen_by l.sight) (reverse l.tuples) (named_view l.items) inside ≡ bound_from (seen_by l.sight) inside l.items l.item-index (reverse l.inner.items)
 
 -- ---- how deep each goes
 
@@ -108,6 +115,9 @@ abbrev pub decreases-choice : goal.decreases-choice
 decreases-choice g l =
     weight l.sight.now
     + (8 * max (max (height (tree_view l.condition.now)) (height (tree_view l.consequent.now))) (height (tree_view l.alternative.now)) + 1)
+
+abbrev pub decreases-bound::bound : goal.decreases-bound::bound
+decreases-bound::bound g l = weight l.sight.now + (8 * max (highest_named (named_view l.items.now)) (height (tree_view l.expr.now)) + 1)
 
 abbrev pub decreases-values_in_rows : goal.decreases-values_in_rows
 decreases-values_in_rows g l = weight l.sight.now + (8 * height (tree_view l.expr.now) + 2)

@@ -4,7 +4,7 @@ ghost use Rattle.td_plan.specs.code.Remembered.{IsRemembered};
 ghost use Rattle.td_plan.specs.declared.plan.step.Step.TheVariants as variants;
 
 use crate::making::remember::{
-    NamedStep, all, all_inside, all_inside_both, both, inside, remember, three,
+    NamedStep, all, all_bound, all_inside, all_inside_both, both, inside, remember, three,
 };
 use crate::plan::step::{Dyadic, Monadic, Origin, Selector, Step};
 use std::alloc::{AllocError, Global};
@@ -228,6 +228,27 @@ pub(crate) fn choice(
     )?;
     Ok(NamedStep {
         step: Step::If(condition, consequent, alternative),
+        names,
+    })
+}
+
+/// What stands where the values of items are in scope.
+#[cycle(remember)]
+pub(crate) fn bound(
+    alloc: Global,
+    places: &mut usize,
+    slot: usize,
+    items: Vec<Step>,
+    value: Box<Step>,
+) -> Result<NamedStep, AllocError>
+    ensures { IfOk result (λ named. IsRemembered places.old places.new named.names.items
+        (variants.Bound slot items value) named.step) }
+{
+    let mut items = items;
+    let mut value = value;
+    let names = all_bound(alloc, places, slot, &mut items, &mut value)?;
+    Ok(NamedStep {
+        step: Step::Bound(slot, items, value),
         names,
     })
 }

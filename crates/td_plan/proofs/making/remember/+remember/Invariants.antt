@@ -60,6 +60,12 @@ decreases-nodes::summarize_by l = 8 * max (step_height l.operand.value) (steps_h
 abbrev pub decreases-nodes::choice : goal.decreases-nodes::choice
 decreases-nodes::choice l = 8 * max (step_height l.condition.value) (max (step_height l.consequent.value) (step_height l.alternative.value)) + 4
 
+abbrev pub decreases-all_bound : goal.decreases-all_bound
+decreases-all_bound l = 8 * max (steps_height l.items.now.items) (step_height l.value.now) + 3
+
+abbrev pub decreases-nodes::bound : goal.decreases-nodes::bound
+decreases-nodes::bound l = 8 * max (steps_height l.items.items) (step_height l.value.value) + 4
+
 abbrev pub invariant-remember_all-loop-step : goal.invariant-remember_all-loop-step
 invariant-remember_all-loop-step l =
     AreEachRemembered l.fn.places l.places (map (λ ns. ns.items) l.all.items) (take l.step-index l.fn.steps.items) (take l.step-index l.step-items)

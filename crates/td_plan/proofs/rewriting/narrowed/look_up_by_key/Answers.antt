@@ -4,12 +4,12 @@ use Rattle.std.specs.Prelude.{IfOk, IfSome, IsTrue}
 use Rattle.td_check.specs.CannotFail.{cannot_fail}
 use Rattle.td_check.specs.Scopes.{entered_with}
 use Rattle.td_eval.specs.TreeNumbers.{HasNumbers}
-use Rattle.td_eval.specs.ValueTypes.{IsWritten}
 use Rattle.td_plan.proofs.FixedParts.{all_among}
 use Rattle.td_plan.proofs.LookUpValues.{look_up_narrows}
 use Rattle.td_plan.specs.declared.rewriting.fixed.FixedValue.{FixedValue}
 use Rattle.td_plan.specs.Narrowing.{AreFixed, IsFixedTo, Narrows}
 use Rattle.td_plan.specs.code.StepViews.{step_view}
+use Rattle.td_tree.specs.WrittenTrees.{IsWritten}
 use Rattle.td_tree.specs.code.TreeViews.{tree_view}
 use Rattle.td_types.specs.Headings.{projection}
 use Rattle.td_types.specs.Types.{attribute_names}

@@ -3,7 +3,7 @@ use Rattle.std.specs.Global.{Box, Vec}
 use Rattle.td_eval.specs.TreeNumbers.{HasNumbers, PartsHaveNumbers}
 use Rattle.td_plan.proofs.rewriting.numbers.+numbers.Goals.{has_numbers-else-has_numbers, has_numbers-then-has_numbers}
 use Rattle.td_plan.proofs.rewriting.numbers.+numbers.Goals as goal
-use Rattle.td_tree.proofs.code_lemmas.Rows.{extend_is, extend_setting_is, headed_relation_is, relation_is, select_is, summarize_by_is, summarize_per_is, tuple_is}
+use Rattle.td_tree.proofs.code_lemmas.Rows.{binding_is, extend_is, extend_setting_is, headed_relation_is, relation_is, select_is, summarize_by_is, summarize_per_is, tuple_is}
 use Rattle.td_tree.specs.declared.expression.Expr.{Expr}
 use Rattle.td_tree.specs.declared.expression.Expr.TheVariants as exprs
 use Rattle.td_tree.specs.declared.expression.NamedExpr.{NamedExpr}
@@ -61,3 +61,8 @@ has_numbers-returns-then-has_numbers-6 t c =
     λ e. numbers_of_parts _ c.in-Extend.operand c.in-Extend.parts c.in-Extend.is
     (subst (λ x. HasNumbers (tree_view x)) c.deref-in-Extend.ensures (c.has_numbers-in-Extend.ensures c.if-has_numbers-6.true))
     (subst (λ xs. PartsHaveNumbers (named_view xs)) c.deref-then-has_numbers-6.ensures.value (c.parts_have_numbers-then-has_numbers-6.ensures e))
+
+pub has_numbers-returns-then-parts_have_numbers : goal.has_numbers-returns-then-parts_have_numbers
+has_numbers-returns-then-parts_have_numbers t c =
+    let is = ap tree_view c.in-With.is ∙ binding_is c.in-With.items c.in-With.value ∙ (λ i. trees.binding (named_view (sym c.deref-in-With.ensures.value i)) (tree_view (sym c.deref-then-parts_have_numbers.ensures i))) in
+    λ e. subst HasNumbers (sym is) (c.parts_have_numbers-in-With.ensures c.if-parts_have_numbers.true, c.has_numbers-then-parts_have_numbers.ensures e)

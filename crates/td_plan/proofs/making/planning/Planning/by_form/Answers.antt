@@ -5,7 +5,7 @@ use Rattle.td_plan.proofs.PlannedLists.{expressions_are}
 use Rattle.td_plan.specs.code.TreeWeights.{weight}
 use Rattle.td_plan.specs.Plans as plans
 use Rattle.td_plan.specs.code.PlannedParts.{ArePlanned, IsPlanned, part_tree}
-use Rattle.td_tree.proofs.code_lemmas.Rows.{extend_is, extend_setting_is, headed_relation_is, relation_is, select_is, summarize_by_is, summarize_per_is, tuple_is}
+use Rattle.td_tree.proofs.code_lemmas.Rows.{binding_is, extend_is, extend_setting_is, headed_relation_is, relation_is, select_is, summarize_by_is, summarize_per_is, tuple_is}
 use Rattle.td_tree.specs.code.TreeViews.{attributes_view, heading_tree_view, named_view, postfix_view, summaries_view, tree_view, trees_view}
 use Rattle.td_tree.specs.Trees as trees
 use Rattle.td_plan.proofs.making.planning.Planning.by_form.Goals as goal
@@ -169,4 +169,14 @@ summarize_per_step-requires g c =
 pub summarize_by_step-requires : goal.summarize_by_step-requires
 summarize_by_step-requires g c =
     let h = ap weight (ap tree_view c.in-SummarizeBy.is ∙ summarize_by_is c.in-SummarizeBy.operand c.in-SummarizeBy.by c.in-SummarizeBy.items ∙ (λ i. trees.summarize_by (tree_view (sym c.deref-in-SummarizeBy.ensures i)) (attributes_view c.in-SummarizeBy.by) (summaries_view (sym c.deref-in-SummarizeBy-2.ensures.value i)))) in
+    below (omega (arith, h)) c.requires
+
+pub returns-in-With : goal.returns-in-With
+returns-in-With g c =
+    let is = ap tree_view c.in-With.is ∙ binding_is c.in-With.items c.in-With.value ∙ (λ i. trees.binding (named_view (sym c.deref-in-With.ensures.value i)) (tree_view (sym c.deref-in-With-2.ensures i))) in
+    subst (IsPlanned c.args.self.now.planner.now.scope c.bound_step.result) (sym is) c.bound_step.ensures
+
+pub bound_step-requires : goal.bound_step-requires
+bound_step-requires g c =
+    let h = ap weight (ap tree_view c.in-With.is ∙ binding_is c.in-With.items c.in-With.value ∙ (λ i. trees.binding (named_view (sym c.deref-in-With.ensures.value i)) (tree_view (sym c.deref-in-With-2.ensures i)))) in
     below (omega (arith, h)) c.requires

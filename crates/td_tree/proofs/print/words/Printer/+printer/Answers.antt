@@ -1,5 +1,5 @@
 use Rattle.std.proofs.Common.{◌≡◌, ◌∙◌, List, [], ◌∷◌, ◌++◌, ap, append-nil, refl, sym}
-use Rattle.td_tree.proofs.code_lemmas.Rows.{extend_is, extend_setting_is, headed_relation_is, relation_is, select_is, summarize_by_is, summarize_per_is, tuple_is}
+use Rattle.td_tree.proofs.code_lemmas.Rows.{binding_is, extend_is, extend_setting_is, headed_relation_is, relation_is, select_is, summarize_by_is, summarize_per_is, tuple_is}
 use Rattle.td_tree.proofs.code_lemmas.Writing.{both_put, item_put, last_put}
 use Rattle.td_tree.specs.declared.expression.Summary.{Summary}
 use Rattle.td_tree.specs.declared.expression.Summary.TheVariants as s
@@ -25,14 +25,14 @@ additions-loop-part-preserved t c =
     (both_put c.in_ok-comma.field-0 c.in_ok-expr.field-0 c.in_ok-out-2.out value alias c.in_ok-expr.ensures c.in_ok-out-2.ensures))
     c.loop-part.invariant
 
-pub settings-loop-part-preserved : goal.settings-loop-part-preserved
-settings-loop-part-preserved t c =
+pub targets-loop-part-preserved : goal.targets-loop-part-preserved
+targets-loop-part-preserved t c =
     let target = name c.part-item.result.name ∷ (sign signs.Assign ∷ []) in
     let value = lexemes_of (tree_view c.part-item.result.value) in
     item_put (λ ps. setting_lexemes (named_view ps)) (λ p. name p.name ∷ (sign signs.Assign ∷ lexemes_of (tree_view p.value))) (λ x r. refl) c.args.parts.now c.loop-part.part-index
-    c.part-item.result c.loop-part.out c.in_ok-out-2.out _ c.loop-part.later c.loop-part-test.true c.part-item.is
-    (both_put c.loop-part.out c.in_ok-comma.field-0 c.in_ok-out-2.out (comma_lexeme_if c.loop-part.later) (target ++ value) c.in_ok-comma.ensures
-    (both_put c.in_ok-comma.field-0 c.in_ok-target.field-0 c.in_ok-out-2.out target value c.in_ok-target.ensures c.in_ok-out-2.ensures))
+    c.part-item.result c.loop-part.out c.in_ok-out.out _ c.loop-part.later c.loop-part-test.true c.part-item.is
+    (both_put c.loop-part.out c.in_ok-comma.field-0 c.in_ok-out.out (comma_lexeme_if c.loop-part.later) (target ++ value) c.in_ok-comma.ensures
+    (both_put c.in_ok-comma.field-0 c.in_ok-target.field-0 c.in_ok-out.out target value c.in_ok-target.ensures c.in_ok-out.ensures))
     c.loop-part.invariant
 
 -- the lexemes of one summary
@@ -142,3 +142,14 @@ expr-returns-in_ok-attributes-in-SummarizeBy t c =
     (keyword k.By ∷ (by ++ added)) refl c.in_ok-keyword-in-SummarizeBy.ensures
     (last_put c.summaries-in-SummarizeBy.result c.in_ok-keyword-in-SummarizeBy.field-0 c.in_ok-attributes-in-SummarizeBy.field-0 by added (by ++ added) refl
     c.in_ok-attributes-in-SummarizeBy.ensures c.summaries-in-SummarizeBy.ensures))
+
+pub expr-returns-in_ok-sign-in-With : goal.expr-returns-in_ok-sign-in-With
+expr-returns-in_ok-sign-in-With t c =
+    let items = with_parentheses (commas (setting_lexemes (named_view c.deref-in-With.result.now))) in
+    let result = lexemes_of (tree_view c.deref-in-With-2.result.now) in
+    last_put c.expr-in-With.result c.args.self c.in_ok-out-in-With.out (keyword k.With ∷ items) (sign signs.Colon ∷ result) _
+    ((cc (c.deref-in-With.ensures.value, c.deref-in-With-2.ensures))
+    ∙ sym (ap lexemes_of (ap tree_view c.in-With.is ∙ binding_is c.in-With.items c.in-With.result)))
+    (both_put c.args.self c.in_ok-keyword-in-With.field-0 c.in_ok-out-in-With.out (keyword k.With ∷ []) items c.in_ok-keyword-in-With.ensures c.in_ok-out-in-With.ensures)
+    (last_put c.expr-in-With.result c.in_ok-out-in-With.out c.in_ok-sign-in-With.field-0 (sign signs.Colon ∷ []) result (sign signs.Colon ∷ result) refl
+    c.in_ok-sign-in-With.ensures c.expr-in-With.ensures)

@@ -25,8 +25,8 @@ invariant-additions-loop-part l =
     l.out ++ written_text (listed l.later (addition_lexemes (named_view (drop l.part-index l.parts))))
     ≡ l.initial.out ++ written_text (commas (addition_lexemes (named_view l.parts)))
 
-abbrev pub invariant-settings-loop-part : goal.invariant-settings-loop-part
-invariant-settings-loop-part l =
+abbrev pub invariant-targets-loop-part : goal.invariant-targets-loop-part
+invariant-targets-loop-part l =
     l.out ++ written_text (listed l.later (setting_lexemes (named_view (drop l.part-index l.parts))))
     ≡ l.initial.out ++ written_text (commas (setting_lexemes (named_view l.parts)))
 

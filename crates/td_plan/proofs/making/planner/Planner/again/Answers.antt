@@ -3,7 +3,7 @@ use Rattle.td_catalog.specs.Database.{database_scope}
 use Rattle.td_check.specs.Scopes.{entered_with}
 use Rattle.td_plan.specs.code.Planners.{among_headings}
 use Rattle.td_plan.proofs.Places.{one_more_first}
-use Rattle.td_plan.proofs.making.planner.Planner.inner_planner.Goals as goal
+use Rattle.td_plan.proofs.making.planner.Planner.again.Goals as goal
 
 pub loop-outer-preserved : goal.loop-outer-preserved
 loop-outer-preserved g c =

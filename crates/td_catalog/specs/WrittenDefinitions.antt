@@ -1,0 +1,10 @@
+-- What holds of the expressions in the definitions of every database: their names are names, and their texts are UTF-8.
+use Rattle.std.specs.List.{AllByRecursion}
+use Rattle.td_catalog.specs.Database.{Database, VirtualRelvar}
+use Rattle.td_tree.specs.WrittenTrees.{IsWritten}
+use Rattle.td_types.specs.TypeListLaws.{ConstraintsAreWritten}
+
+-- the constraints of types and the expressions of virtual relvars are written so
+pub record DefinitionsAreWritten (db : Database) : Type 0 where
+  pub constraints : ConstraintsAreWritten db.types
+  pub virtuals : AllByRecursion (λ (v : VirtualRelvar). IsWritten v.tree) db.virtuals

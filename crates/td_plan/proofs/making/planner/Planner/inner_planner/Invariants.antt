@@ -1,9 +1,0 @@
-use Rattle.std.proofs.Common.{◌≡◌, reverse, take}
-use Rattle.td_catalog.specs.Database.{database_scope}
-use Rattle.td_plan.specs.code.Planners.{IsPlanner, among_headings}
-use Rattle.td_plan.proofs.making.planner.Planner.inner_planner.Given as goal
-
-abbrev pub invariant-loop-outer : goal.invariant-loop-outer
-invariant-loop-outer g l =
-    IsPlanner g.C.Known.database l.inner
-    × (l.inner.scope ≡ among_headings (database_scope (g.C.Known.database l.self.catalog.now)) (reverse (take l.outer-index l.self.headings.items)))

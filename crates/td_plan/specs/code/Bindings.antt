@@ -1,0 +1,32 @@
+-- What comes of putting tuples into slots of their own, one after the other.
+use Rattle.std.specs.Prelude.{◌≡◌, ℕ, List, Option, Result, Ok, Err, ⊤}
+use Rattle.td_eval.specs.OperatorValues.{on_tuple}
+use Rattle.td_eval.specs.Worlds.{World}
+use Rattle.td_plan.specs.declared.plan.step.Step.{Step}
+use Rattle.td_plan.specs.declared.running.memo.Memo.{Memo}
+use Rattle.td_plan.specs.Plans.{PlanTrees, Slots, plan_where_bound, with_slot}
+use Rattle.td_plan.specs.code.Hands.{slots_in}
+use Rattle.td_plan.specs.code.Memos.{AgreeBelow, IsMemo, Parts}
+use Rattle.td_plan.specs.code.Runs.{step_value}
+use Rattle.td_tree.specs.declared.fault.Fault.{Fault}
+use Rattle.td_tree.specs.Outcomes.{Answers, Outcome, with_value}
+use Rattle.td_value.specs.code.Views.{values_of}
+use Rattle.td_value.specs.Values.{Tuple, Val}
+
+-- the outcome of what goes on where the tuple that a step has is in the slot
+abbrev pub where_in_slot : World → Slots → ℕ → Step → (Slots → Outcome Val) → Outcome Val
+where_in_slot w s slot step inside =
+    with_value (step_value w s step) (λ v. on_tuple v (λ t. inside (with_slot slot (values_of t) s)))
+
+-- the memo is right where other slots than these stand there from the slot on
+abbrev pub IsMemoFrom : Parts → World → ℕ → Slots → Memo → Type 0
+IsMemoFrom ps w slot s m = (t : Slots) × AgreeBelow slot s t × IsMemo ps w t m
+
+-- the rows are such that what goes on has its outcome in them, with the memo right there; else the call answers what the outcome is
+-- refused for
+abbrev pub IsEntered : Parts → World → ℕ → Slots → ((Slots → Outcome Val) → Outcome Val) → Result ⊤ Fault → List (Option Tuple) → Memo → Type 0
+IsEntered ps w slot s outcome (Ok u) rows m =
+    ((inside : Slots → Outcome Val) → outcome inside ≡ inside (slots_in rows))
+    × AgreeBelow slot s (slots_in rows) × IsMemo ps w (slots_in rows) m
+IsEntered ps w slot s outcome (Err f) rows m =
+    ((inside : Slots → Outcome Val) → Answers {X = Val} (λ v. v) (Err f) (outcome inside)) × IsMemoFrom ps w slot s m

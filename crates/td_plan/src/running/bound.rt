@@ -1,0 +1,160 @@
+//! The value of what stands where the values of WITH's items are in scope.
+ghost use Rattle.std.specs.Prelude.{◌≡◌, IfOk, max, suc};
+ghost use Rattle.td_eval.specs.Worlds.{World};
+ghost use Rattle.td_plan.specs.Plans.{bound, plan_value, plan_where_bound, slots_before};
+ghost use Rattle.td_plan.specs.code.Bindings.{IsEntered, IsMemoFrom, where_in_slot};
+ghost use Rattle.td_plan.specs.code.Hands.{slots_in, slots_of};
+ghost use Rattle.td_plan.specs.code.Memos.{AreSound, IsMemo, IsMemoBelow, IsReady, IsSound, Keeps};
+ghost use Rattle.td_plan.specs.code.Memos.{Parts};
+ghost use Rattle.td_plan.specs.code.StepHeights.{step_height, steps_height};
+ghost use Rattle.td_plan.specs.code.StepViews.{step_view, steps_view};
+ghost use Rattle.td_plan.specs.code.ValuesBelow.{ValuesBelow};
+ghost use Rattle.td_tree.specs.Outcomes.{Answers};
+
+use crate::plan::step::Step;
+use crate::running::evaluator::{Evaluator, InWorld};
+use crate::running::hand::{Hand, entered, put};
+use crate::running::memo::{Memo, forget};
+use std::alloc::{AllocError, Global};
+use td_eval::operators::asked::tuple_in;
+use td_tree::fault::Fault;
+use td_value::tuple::Tuple;
+use td_value::value::Value;
+
+/// Where these tuples are in scope, each in the slot of its place.
+#[inline]
+pub(crate) fn hand_of(rows: &[Option<Tuple>]) -> Hand<'_, '_>
+    ensures { slots_of result ≡ slots_in rows.now }
+{
+    Hand {
+        tuple: None,
+        slot: rows.len(),
+        outer: rows,
+    }
+}
+
+/// The tuples in the slots before this one. What is kept and names it is forgotten.
+#[inline(never)]
+fn rows_before(
+    alloc: Global,
+    memo: &mut Memo,
+    hand: &Hand<'_, '_>,
+    slot: usize,
+) -> Result<Vec<Option<Tuple>>, AllocError>
+    ensures rows { IfOk result
+        (λ rows. slots_in rows.items ≡ slots_before slot (slots_of hand.now)) }
+    ensures memo { (ps : Parts) (w : World) → IsMemo ps w (slots_of hand.now) memo.old
+        → IsMemoBelow ps w slot (slots_of hand.now) memo.new }
+{
+    let inside = entered(alloc, memo, hand, slot)?;
+    let mut rows = inside.outer;
+    rows.truncate(slot);
+    Ok(rows)
+}
+
+impl<A: InWorld, F> Evaluator<'_, A, F>
+where
+    F: Fn(&A, &mut Memo, &Hand<'_, '_>, &Step) -> Result<Value, Fault>,
+{
+    /// Puts the tuple that a step has into the slot.
+    fn bind(
+        &self,
+        memo: &mut Memo,
+        rows: &mut Vec<Option<Tuple>>,
+        slot: usize,
+        item: &Step,
+    ) -> Result<(), Fault>
+        requires below { ValuesBelow A.world self.now (suc (step_height item.now)) F.pre F.post }
+        requires ready { IsReady (A.world self.now.around.now) (slots_in rows.old.items) memo.old
+            (λ ps. IsSound ps item.now) }
+        ensures { (ps : Parts) → IsSound ps item.now
+            → IsMemo ps (A.world self.now.around.now) (slots_in rows.old.items) memo.old
+            → IsEntered ps (A.world self.now.around.now) slot (slots_in rows.old.items)
+            (where_in_slot (A.world self.now.around.now) (slots_in rows.old.items) slot item.now)
+            result rows.new.items memo.new }
+    {
+        let value = self.run(memo, &hand_of(rows), item)?;
+        let tuple = tuple_in(&value)?.try_clone()?;
+        forget(memo, slot);
+        put(rows, slot, Some(tuple))?;
+        Ok(())
+    }
+
+    /// Puts the tuples that steps have into slots from this one on.
+    fn bind_all(
+        &self,
+        memo: &mut Memo,
+        rows: &mut Vec<Option<Tuple>>,
+        slot: usize,
+        items: &[Step],
+    ) -> Result<(), Fault>
+        requires below { ValuesBelow A.world self.now (suc (steps_height items.now)) F.pre F.post }
+        requires ready { IsReady (A.world self.now.around.now) (slots_in rows.old.items) memo.old
+            (λ ps. AreSound ps items.now) }
+        ensures { (ps : Parts) → AreSound ps items.now
+            → IsMemo ps (A.world self.now.around.now) (slots_in rows.old.items) memo.old
+            → IsEntered ps (A.world self.now.around.now) slot (slots_in rows.old.items)
+            (plan_where_bound (A.world self.now.around.now) (slots_in rows.old.items) slot
+            (steps_view items.now)) result rows.new.items memo.new }
+    {
+        for (place, item) in items.iter().enumerate() {
+            let Some(next) = slot.checked_add(place) else {
+                return Err(Fault::Memory);
+            };
+            self.bind(memo, rows, next, item)?;
+        }
+        Ok(())
+    }
+
+    /// The value of a step where the tuples that items have are in slots from this one on.
+    fn value_behind(
+        &self,
+        memo: &mut Memo,
+        rows: &mut Vec<Option<Tuple>>,
+        slot: usize,
+        items: &[Step],
+        value: &Step,
+    ) -> Result<Value, Fault>
+        requires below { ValuesBelow A.world self.now
+            (suc (max (steps_height items.now) (step_height value.now))) F.pre F.post }
+        requires ready { IsReady (A.world self.now.around.now) (slots_in rows.old.items) memo.old
+            (λ ps. AreSound ps items.now × IsSound ps value.now) }
+        ensures { (ps : Parts) → AreSound ps items.now × IsSound ps value.now
+            → IsMemo ps (A.world self.now.around.now) (slots_in rows.old.items) memo.old
+            → Answers (λ v. v) result
+            (plan_where_bound (A.world self.now.around.now) (slots_in rows.old.items) slot
+            (steps_view items.now)
+            (λ s. plan_value (A.world self.now.around.now) s (step_view value.now)))
+            × IsMemoFrom ps (A.world self.now.around.now) slot (slots_in rows.old.items)
+            memo.new }
+    {
+        self.bind_all(memo, rows, slot, items)?;
+        self.run(memo, &hand_of(rows), value)
+    }
+
+    /// The value of a step where the values of items are in scope, each in a slot of its own from
+    /// this one on.
+    #[inline(never)]
+    pub(crate) fn bound(
+        &self,
+        memo: &mut Memo,
+        hand: &Hand<'_, '_>,
+        slot: usize,
+        items: &[Step],
+        value: &Step,
+    ) -> Result<Value, Fault>
+        requires below { ValuesBelow A.world self.now
+            (suc (max (steps_height items.now) (step_height value.now))) F.pre F.post }
+        requires ready { IsReady (A.world self.now.around.now) (slots_of hand.now) memo.old
+            (λ ps. AreSound ps items.now × IsSound ps value.now) }
+        ensures { Keeps (A.world self.now.around.now) (slots_of hand.now) memo.old memo.new
+            (λ ps. AreSound ps items.now × IsSound ps value.now) (Answers (λ v. v) result
+            (plan_value (A.world self.now.around.now) (slots_of hand.now)
+            (bound slot (steps_view items.now) (step_view value.now)))) }
+    {
+        let mut rows = rows_before(self.alloc, memo, hand, slot)?;
+        let answer = self.value_behind(memo, &mut rows, slot, items, value);
+        forget(memo, slot);
+        answer
+    }
+}
