@@ -9,6 +9,7 @@ pub mod EqualValues
 pub mod FixedParts
 pub mod FixedValues
 pub mod HandSlots
+pub mod Hoisting
 pub mod LookUpLaws
 pub mod LookUpParts
 pub mod LookUpValues

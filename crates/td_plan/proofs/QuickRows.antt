@@ -9,7 +9,7 @@ use Rattle.td_check.proofs.CheckedLists.{step_taken}
 use Rattle.td_eval.specs.OperatorValues.{prefix_value, truth_value}
 use Rattle.td_eval.specs.Worlds.{World}
 use Rattle.td_plan.specs.declared.plan.step.Step.{Step}
-use Rattle.td_plan.proofs.SlotLaws.{agree_below, slot_here}
+use Rattle.td_plan.proofs.SlotLaws.{agree_below, slot_here, slot_other}
 use Rattle.td_plan.specs.declared.running.hand.Inside.{Inside}
 use Rattle.td_plan.specs.declared.running.memo.Memo.{Memo}
 use Rattle.td_plan.specs.Plans.{PlanTree, Slots, attribute, plan_value, value_or}
@@ -43,6 +43,14 @@ pub of_attribute : {X : Type 0} (view : X → Val) (w : World) (inside : Inside)
     → AreQuick view (λ t. plan_value w (slots_inside inside t) (attribute slot place)) ts found
 of_attribute view w inside slot place ts found here q =
     subst (λ (f : Tuple → Outcome Val). AreQuick view f ts found) (λ i t. value_or (slice_get (sym (slot_here slot inside.slot (values_of t) (slots_in inside.outer.items) here) i) place)) q
+
+-- an attribute of a tuple further out
+pub of_outer : {X : Type 0} (view : X → Val) (w : World) (inside : Inside) (slot place : ℕ) (ts : List Tuple) (found : Option (Vec X))
+    → (slot ≡ inside.slot → ⊥) → AreQuick view (λ t. value_or (slice_get (slots_in inside.outer.items slot) place)) ts found
+    → AreQuick view (λ t. plan_value w (slots_inside inside t) (attribute slot place)) ts found
+of_outer view w inside slot place ts found other q =
+    subst (λ (f : Tuple → Outcome Val). AreQuick view f ts found)
+    (λ i t. value_or (slice_get (sym (slot_other slot inside.slot (values_of t) (slots_in inside.outer.items) other) i) place)) q
 
 -- what is found where a tuple of the loop is in scope
 pub quick_inside : {X : Type 0} (view : X → Val) (found : Option X) (w : World) (inside : Inside) (t : Tuple) (s : Slots) (step : Step) (memo : Memo) (ps : Parts)

@@ -6,8 +6,8 @@ use Rattle.td_plan.specs.declared.plan.step.Step.{Step}
 use Rattle.td_plan.proofs.PlacedLaws.{placed_all, placed_both, placed_map, placed_more}
 use Rattle.td_plan.proofs.Withins.{on_more}
 use Rattle.td_plan.specs.Plans.{PlanTree, PlanTrees, more}
-use Rattle.td_plan.specs.code.Memos.{AreOn, AreSound, IsOn, IsSound, Parts, Placed}
-use Rattle.td_plan.specs.code.Remembered.{AreAllAmong, AreAllRemembered, AreAmong, AreAmongBefore, AreAmongBut, AreEachKept, AreEachRemembered, AreRemembered, AreRememberedBound, AreRememberedInside, AreRememberedInsideBoth, AreThreeRemembered, IsRemembered, KeepsPart}
+use Rattle.td_plan.specs.code.Memos.{AreApart, AreOn, AreSound, IsOn, IsSound, Parts, Placed}
+use Rattle.td_plan.specs.code.Remembered.{AreAllAmong, AreAllRemembered, AreAmong, AreAmongBefore, AreAmongBut, AreBoundNames, AreEachKept, AreEachRemembered, AreRemembered, AreRememberedBound, AreRememberedInside, AreRememberedInsideBoth, AreThreeRemembered, IsRemembered, KeepsPart}
 use Rattle.td_plan.specs.code.StepViews.{step_view, steps_view}
 
 pub among_but_more : (slot : ℕ) (inner a b : List ℕ) → AreAmongBut slot inner a → AreAmong a b → AreAmongBut slot inner b
@@ -274,29 +274,33 @@ inside_both_made make a b slot names law l r l2 r2 os xs old new h was is sound 
 
 -- ---- tuples in slots of their own, and what stands where they are in scope
 
-pub bound_remembered : (a b c d e slot : ℕ) (f : List ℕ) (ns : List (List ℕ)) (inner names : List ℕ) (l l1 l2 : Step) (os ms xs : List Step)
-    → IsRemembered a b f l l1 → AreEachRemembered b c ns os ms → AreAllAmong ns inner → AreAmong f inner → AreAmongBefore slot inner names
-    → KeepsPart c d f l1 l2 → AreEachKept d e ns ms xs → AreRememberedBound a e slot names l os l2 xs
-bound_remembered a b c d e slot f ns inner names l l1 l2 os ms xs h i among own before j k =
+pub bound_remembered : (a b c d e slot reach : ℕ) (f : List ℕ) (ns : List (List ℕ)) (names : List ℕ) (l l1 l2 : Step) (os ms xs : List Step)
+    → IsRemembered a b f l l1 → AreEachRemembered b c ns os ms → AreBoundNames slot ns f names reach
+    → KeepsPart c d f l1 l2 → AreEachKept d e ns ms xs → AreRememberedBound a e slot reach names l os l2 xs
+bound_remembered a b c d e slot reach f ns names l l1 l2 os ms xs h i n j k =
     let all = listed b c ns os ms i in
+    let inner = n.together in
+    let apart = n.apart in
     record {
       value = kept_view c d f l1 l2 j ∙ h.view;
       views = each_kept_views d e ns ms xs k ∙ all.views;
-      on = (inner, on_more f inner (step_view l) own h.on, all.on inner among, before);
+      on = (inner.0, on_more f inner.0 (step_view l) inner.2 h.on, all.on inner.0 inner.1, inner.3);
+      apart = λ before w s t agree. all.on apart.0 apart.1 w s t (λ j c. agree j (apart.2 before j c));
       placed =
           each_placed_kept a d e ns ms xs (λ ps. IsSound ps l2) k all.each_on
           (swapped a d (λ ps. IsSound ps l2) (λ ps. AreSound ps ms)
           (placed_kept a c d f l1 l2 (λ ps. AreSound ps ms) j (subst (IsOn f) (sym h.view) h.on) (placed_both a b c _ _ h.placed all.placed)));
     }
 
-pub bound_made : (make : PlanTrees → PlanTree → PlanTree) (a b slot : ℕ) (names : List ℕ)
+pub bound_made : (make : PlanTrees → PlanTree → PlanTree) (a b slot reach : ℕ) (names : List ℕ)
     → ((inner : List ℕ) (ps : PlanTrees) (p : PlanTree) → AreAmongBefore slot inner names → AreOn inner ps → IsOn inner p → IsOn names (make ps p))
-    → (l l2 : Step) (os xs : List Step) (old new : Step) → AreRememberedBound a b slot names l os l2 xs → step_view old ≡ make (steps_view os) (step_view l)
-    → step_view new ≡ make (steps_view xs) (step_view l2) → ((ps : Parts) → AreSound ps xs × IsSound ps l2 → IsSound ps new) → IsRemembered a b names old new
-bound_made make a b slot names law l l2 os xs old new h was is sound =
+    → (l l2 : Step) (os xs : List Step) (old new : Step) → AreRememberedBound a b slot reach names l os l2 xs → step_view old ≡ make (steps_view os) (step_view l)
+    → step_view new ≡ make (steps_view xs) (step_view l2)
+    → ((ps : Parts) → (AreSound ps xs × IsSound ps l2) × AreApart reach slot (steps_view xs) → IsSound ps new) → IsRemembered a b names old new
+bound_made make a b slot reach names law l l2 os xs old new h was is sound =
     let on = h.on in
     record {
       view = is ∙ (λ i. make (h.views i) (h.value i)) ∙ sym was;
       on = subst (IsOn names) (sym was) (law on.0 (steps_view os) (step_view l) on.3 on.2 on.1);
-      placed = placed_map a b _ _ sound h.placed;
+      placed = placed_map a b _ _ (λ ps x. sound ps (x, subst (AreApart reach slot) (sym h.views) h.apart)) h.placed;
     }

@@ -4,17 +4,17 @@ use Rattle.std.specs.Global.{Box, Vec}
 use Rattle.std.specs.Prelude.{max}
 use Rattle.td_eval.specs.Worlds.{World}
 use Rattle.td_group.specs.declared.aggregates.Agg.{Agg}
-use Rattle.td_plan.proofs.StepRows.{bound_is, extend_is, select_is, summarize_by_is, summarize_per_is}
+use Rattle.td_plan.proofs.StepRows.{bound_is, extend_is, select_is, steps_are, summarize_by_is, summarize_per_is}
 use Rattle.td_plan.specs.declared.plan.step.Selector.{Selector}
 use Rattle.td_plan.specs.declared.plan.step.Selector.TheVariants as selectors
 use Rattle.td_plan.specs.declared.plan.step.Step.{Step, Row_of-Step, end_of-Step, more_of-Step, items-the_row-Step, items_hidden-the_row-Step-0}
 use Rattle.td_plan.specs.declared.plan.step.Step.TheVariants as p
 use Rattle.td_plan.specs.declared.running.memo.Memo.{Memo}
 use Rattle.td_plan.specs.Plans.{PlanTree, Slots, bound, extend, plan_value, select, summarize_by, summarize_per}
-use Rattle.td_plan.specs.code.Memos.{AreSound, IsMemo, IsReady, IsSound, IsSoundRow, Keeps, Parts}
+use Rattle.td_plan.specs.code.Memos.{AreApart, AreSound, IsMemo, IsReady, IsSound, IsSoundRow, Keeps, Parts}
 use Rattle.td_plan.specs.code.Runs.{step_value}
 use Rattle.td_plan.specs.code.StepHeights.{row_height, step_height, steps_height}
-use Rattle.td_plan.specs.code.StepViews.{selector_view, step_view, steps_view}
+use Rattle.td_plan.specs.code.StepViews.{selector_view, step_view, steps_row, steps_view}
 use Rattle.td_tree.specs.declared.expression.Attributes.{Attributes}
 use Rattle.td_tree.specs.declared.fault.Fault.{Fault}
 use Rattle.td_tree.specs.code.TreeViews.{attributes_view}
@@ -98,15 +98,21 @@ module _ (step : Step) (v : Vec Step) (xs : List Step) (parts : xs ≡ v.items) 
         (subst (IsSound ps) (sym operand) both.0, subst (AreSound ps) (sym parts) (parts_sound ps v both.1));
   }
 
-  pub bound_made : (slot : ℕ) (b : Box Step) (d : Step) → step ≡ p.Bound slot v b → d ≡ b.value
+  pub bound_made : (slot reach : ℕ) (b : Box Step) (d : Step) → step ≡ p.Bound slot reach v b → d ≡ b.value
       → IsMade step (bound slot (steps_view xs) (step_view d)) (suc (max (steps_height xs) (step_height d))) (λ ps. AreSound ps xs × IsSound ps d)
-  bound_made slot b d is value = record {
-    view = ap step_view is ∙ bound_is slot v b ∙ (λ i. bound slot (steps_view (sym parts i)) (step_view (sym value i)));
+  bound_made slot reach b d is value = record {
+    view = ap step_view is ∙ bound_is slot reach v b ∙ (λ i. bound slot (steps_view (sym parts i)) (step_view (sym value i)));
     height = ap step_height is ∙ (λ i. suc (max ((parts_high v ∙ ap steps_height (sym parts)) i) (step_height (sym value i))));
     sound = λ ps h.
-        let both : IsSoundRow ps (element_row (p.Select selectors.Relation v)).1 × IsSound ps b.value = subst (IsSound ps) is h in
-        (subst (AreSound ps) (sym parts) (parts_sound ps v both.0), subst (IsSound ps) (sym value) both.1);
+        let all : IsSoundRow ps (element_row (p.Select selectors.Relation v)).1 × IsSound ps b.value × AreApart reach slot (steps_row (element_row (p.Select selectors.Relation v)).1) = subst (IsSound ps) is h in
+        (subst (AreSound ps) (sym parts) (parts_sound ps v all.0), subst (IsSound ps) (sym value) all.1);
   }
+
+  -- its tuples name no slot from the reach up to their own
+  pub bound_apart : (slot reach : ℕ) (b : Box Step) (ps : Parts) → step ≡ p.Bound slot reach v b → IsSound ps step → AreApart reach slot (steps_view xs)
+  bound_apart slot reach b ps is h =
+      let all : IsSoundRow ps (element_row (p.Select selectors.Relation v)).1 × IsSound ps b.value × AreApart reach slot (steps_row (element_row (p.Select selectors.Relation v)).1) = subst (IsSound ps) is h in
+      subst (AreApart reach slot) (steps_are v ∙ ap steps_view (sym parts)) all.2
 
 -- ---- the run of such a step
 

@@ -43,5 +43,5 @@ pub summarize_by_is : (o : Box Step) (by : Attributes) (xs : Vec (List ℕ × Ty
     ≡ summarize_by (step_view o.value) (attributes_view by) (pairs_view xs.items) aggs.items slot (steps_view v.items)
 summarize_by_is o by xs aggs slot v = ap (summarize_by (step_view o.value) (attributes_view by) (pairs_view xs.items) aggs.items slot) (steps_are v)
 
-pub bound_is : (slot : ℕ) (v : Vec Step) (b : Box Step) → step_view (p.Bound slot v b) ≡ bound slot (steps_view v.items) (step_view b.value)
-bound_is slot v b = ap (λ ps. bound slot ps (step_view b.value)) (steps_are v)
+pub bound_is : (slot reach : ℕ) (v : Vec Step) (b : Box Step) → step_view (p.Bound slot reach v b) ≡ bound slot (steps_view v.items) (step_view b.value)
+bound_is slot reach v b = ap (λ ps. bound slot ps (step_view b.value)) (steps_are v)

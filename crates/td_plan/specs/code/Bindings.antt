@@ -3,10 +3,12 @@ use Rattle.std.specs.Prelude.{◌≡◌, ℕ, List, Option, Result, Ok, Err, ⊤
 use Rattle.td_eval.specs.OperatorValues.{on_tuple}
 use Rattle.td_eval.specs.Worlds.{World}
 use Rattle.td_plan.specs.declared.plan.step.Step.{Step}
+use Rattle.td_plan.specs.declared.running.hand.Inside.{Inside}
 use Rattle.td_plan.specs.declared.running.memo.Memo.{Memo}
-use Rattle.td_plan.specs.Plans.{PlanTrees, Slots, plan_where_bound, with_slot}
+use Rattle.td_plan.specs.Plans.{PlanTrees, Slots, plan_where_bound, slots_before, with_slot}
 use Rattle.td_plan.specs.code.Hands.{slots_in}
 use Rattle.td_plan.specs.code.Memos.{AgreeBelow, IsMemo, Parts}
+use Rattle.td_plan.specs.code.QuickInside.{value_inside}
 use Rattle.td_plan.specs.code.Runs.{step_value}
 use Rattle.td_tree.specs.declared.fault.Fault.{Fault}
 use Rattle.td_tree.specs.Outcomes.{Answers, Outcome, with_value}
@@ -30,3 +32,18 @@ IsEntered ps w slot s outcome (Ok u) rows m =
     × AgreeBelow slot s (slots_in rows) × IsMemo ps w (slots_in rows) m
 IsEntered ps w slot s outcome (Err f) rows m =
     ((inside : Slots → Outcome Val) → Answers {X = Val} (λ v. v) (Err f) (outcome inside)) × IsMemoFrom ps w slot s m
+
+-- ---- where a loop goes over tuples behind them
+
+-- the loop where the tuples that plans have are in scope
+abbrev pub IsBehind : World → Inside → ℕ → PlanTrees → Inside → Type 0
+IsBehind w inside slot items inner =
+    (inner.slot ≡ inside.slot) × AgreeBelow inside.slot (slots_in inside.outer.items) (slots_in inner.outer.items)
+    × ((outcome : Slots → Outcome Val)
+    → plan_where_bound w (slots_before slot (slots_in inside.outer.items)) slot items outcome ≡ outcome (slots_in inner.outer.items))
+
+-- in each tuple of the loop a step has the value that another has in the other loop over these tuples
+pub record IsHoisted (w : World) (inside : Inside) (step : Step) (inner : Inside) (rest : Step) : Type 0 where
+  pub slot : inner.slot ≡ inside.slot
+  pub outer : AgreeBelow inside.slot (slots_in inside.outer.items) (slots_in inner.outer.items)
+  pub same : (t : Tuple) → value_inside w inside step t ≡ value_inside w inner rest t

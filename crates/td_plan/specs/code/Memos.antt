@@ -1,5 +1,5 @@
 -- What is kept of the parts of a plan while it is run.
-use Rattle.std.specs.Prelude.{◌≡◌, ◌<◌, ◌≤◌, ℕ, List, [], ◌∷◌, Option, Some, None, ⊤}
+use Rattle.std.specs.Prelude.{◌≡◌, ◌<◌, ◌≤◌, ◌⊎◌, ℕ, List, [], ◌∷◌, Option, Some, None, ⊤}
 use Rattle.std.specs.List.{Contains, slice_get}
 use Rattle.td_eval.specs.Worlds.{World}
 use Rattle.td_plan.specs.declared.running.memo.Kept.{Kept}
@@ -7,7 +7,7 @@ use Rattle.td_plan.specs.declared.running.memo.Memo.{Memo}
 use Rattle.td_plan.specs.declared.plan.step.Step.{Step, Row_of-Step, end_of-Step, more_of-Step}
 use Rattle.td_plan.specs.declared.plan.step.Step.TheVariants as p
 use Rattle.td_plan.specs.Plans.{PlanTree, PlanTrees, Slots, plan_value, plan_values}
-use Rattle.td_plan.specs.code.StepViews.{step_view}
+use Rattle.td_plan.specs.code.StepViews.{step_view, steps_row}
 use Rattle.td_tree.specs.Outcomes.{Answers}
 
 -- ---- what plans name
@@ -28,6 +28,14 @@ AreOn names ps = (w : World) (s t : Slots) → AgreeOn names s t → plan_values
 -- a plan that names no slot from this one on
 abbrev pub IsWithin : ℕ → PlanTree → Type 0
 IsWithin k p = (w : World) (s t : Slots) → AgreeBelow k s t → plan_value w s p ≡ plan_value w t p
+
+-- slots that agree but for those from the first number up to the second
+abbrev pub AgreeBeside : ℕ → ℕ → Slots → Slots → Type 0
+AgreeBeside k n s t = (j : ℕ) → (j < k) ⊎ (n ≤ j) → s j ≡ t j
+
+-- plans that name no slot from the first number up to the second
+abbrev pub AreApart : ℕ → ℕ → PlanTrees → Type 0
+AreApart k n ps = k < n → (w : World) (s t : Slots) → AgreeBeside k n s t → plan_values w s ps ≡ plan_values w t ps
 
 -- ---- parts whose answers are kept, by their places
 
@@ -57,7 +65,8 @@ abbrev mutual
   IsSound ps (p.SummarizeBy' _ operand by attributes aggregates slot _ values) = IsSound ps operand × IsSoundRow ps values
   IsSound ps (p.If' _ condition _ consequent _ alternative) =
       IsSound ps condition × IsSound ps consequent × IsSound ps alternative
-  IsSound ps (p.Bound' slot _ items _ result) = IsSoundRow ps items × IsSound ps result
+  IsSound ps (p.Bound' slot reach _ items _ result) =
+      IsSoundRow ps items × IsSound ps result × AreApart reach slot (steps_row items)
   IsSound ps (p.Once' place reach _ part) = IsPart ps place reach (step_view part) × IsSound ps part
 
   pub IsSoundRow : Parts → {m : _} → Row_of-Step m → Type 0

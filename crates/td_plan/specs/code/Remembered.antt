@@ -1,8 +1,8 @@
 -- A step whose parts are kept once it is made.
-use Rattle.std.specs.Prelude.{◌≡◌, ◌⊎◌, ◌<◌, ℕ, suc, List, [], ◌∷◌, ⊤}
+use Rattle.std.specs.Prelude.{◌≡◌, ◌⊎◌, ◌<◌, ◌≤◌, ℕ, suc, List, [], ◌∷◌, ⊤}
 use Rattle.std.specs.List.{Contains}
 use Rattle.td_plan.specs.declared.plan.step.Step.{Step}
-use Rattle.td_plan.specs.code.Memos.{AreOn, AreSound, IsOn, IsSound, Parts, Placed}
+use Rattle.td_plan.specs.code.Memos.{AreApart, AreOn, AreSound, IsOn, IsSound, Parts, Placed}
 use Rattle.td_plan.specs.code.StepViews.{step_view, steps_view}
 
 -- ---- slots that are named
@@ -98,9 +98,21 @@ pub record AreRememberedInsideBoth (a b : ℕ) (slot : ℕ) (names : List ℕ) (
   pub on : (inner : List ℕ) × AreOn inner (steps_view olds) × AreAmongBut slot inner names
   pub placed : Placed a b (λ ps. IsSound ps new_l × IsSound ps new_r × AreSound ps news)
 
--- tuples in slots from this one on, and a step where they are in scope: together they name these slots before it
-pub record AreRememberedBound (a b : ℕ) (slot : ℕ) (names : List ℕ) (old : Step) (olds : List Step) (new : Step) (news : List Step) : Type 0 where
+-- those from the reach on are from the slot on, where the reach is before it
+abbrev pub AreOutside : ℕ → ℕ → List ℕ → Type 0
+AreOutside reach slot names = reach < slot → (j : ℕ) → Contains names j → (j < reach) ⊎ (slot ≤ j)
+
+-- of tuples in slots from this one on, which name these slots each, and of a step behind them, which names its own: those
+-- before the slot, and how far those of the tuples reach
+pub record AreBoundNames (slot : ℕ) (each : List (List ℕ)) (own names : List ℕ) (reach : ℕ) : Type 0 where
+  pub together : (inner : List ℕ) × AreAllAmong each inner × AreAmong own inner × AreAmongBefore slot inner names
+  pub apart : (all : List ℕ) × AreAllAmong each all × AreOutside reach slot all
+
+-- tuples in slots from this one on, and a step where they are in scope: together they name these slots before it, and the tuples
+-- none from the reach on
+pub record AreRememberedBound (a b : ℕ) (slot reach : ℕ) (names : List ℕ) (old : Step) (olds : List Step) (new : Step) (news : List Step) : Type 0 where
   pub value : step_view new ≡ step_view old
   pub views : steps_view news ≡ steps_view olds
   pub on : (inner : List ℕ) × IsOn inner (step_view old) × AreOn inner (steps_view olds) × AreAmongBefore slot inner names
+  pub apart : AreApart reach slot (steps_view olds)
   pub placed : Placed a b (λ ps. AreSound ps news × IsSound ps new)

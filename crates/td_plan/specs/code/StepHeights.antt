@@ -17,7 +17,7 @@ abbrev mutual
   step_height (p.SummarizeBy' _ operand by attributes aggregates slot _ values) = suc (max (step_height operand) (row_height values))
   step_height (p.If' _ condition _ consequent _ alternative) =
       suc (max (step_height condition) (max (step_height consequent) (step_height alternative)))
-  step_height (p.Bound' slot _ items _ result) = suc (max (row_height items) (step_height result))
+  step_height (p.Bound' slot reach _ items _ result) = suc (max (row_height items) (step_height result))
   step_height (p.Once' place reach _ part) = suc (step_height part)
   step_height _ = 0
 

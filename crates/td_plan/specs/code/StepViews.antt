@@ -52,7 +52,7 @@ abbrev mutual
       plans.summarize_by (step_view operand) (attributes_view by) (pairs_view attributes.items) aggregates.items slot (steps_row values)
   step_view (p.If' _ condition _ consequent _ alternative) =
       plans.choice (step_view condition) (step_view consequent) (step_view alternative)
-  step_view (p.Bound' slot _ items _ result) = plans.bound slot (steps_row items) (step_view result)
+  step_view (p.Bound' slot reach _ items _ result) = plans.bound slot (steps_row items) (step_view result)
   -- what is kept stands for its part
   step_view (p.Once' place reach _ part) = step_view part
 

@@ -75,6 +75,11 @@ where
             inner.bind(&item.name, ty)?;
         }
         let value = self.step_there(&inner, value)?;
-        Ok(Step::Bound(slot, steps, Box::new(alloc, value)?))
+        Ok(Step::Bound {
+            slot,
+            reach: slot,
+            items: steps,
+            value: Box::new(alloc, value)?,
+        })
     }
 }

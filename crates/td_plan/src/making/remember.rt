@@ -5,7 +5,8 @@ ghost use Rattle.td_plan.specs.code.Memos.{IsRunnable};
 ghost use Rattle.td_plan.specs.code.Remembered.{AreAllAmong, AreAmong, AreAmongBut, AreBefore};
 ghost use Rattle.td_plan.specs.code.Remembered.{AreEachKept, AreEachRemembered, AreRemembered};
 ghost use Rattle.td_plan.specs.code.Remembered.{AreAllRemembered, AreAmongBefore};
-ghost use Rattle.td_plan.specs.code.Remembered.{AreRememberedBound, AreRememberedInside};
+ghost use Rattle.td_plan.specs.code.Remembered.{AreBoundNames, AreRememberedBound};
+ghost use Rattle.td_plan.specs.code.Remembered.{AreRememberedInside};
 ghost use Rattle.td_plan.specs.code.Remembered.{AreRememberedInsideBoth, AreThreeRemembered};
 ghost use Rattle.td_plan.specs.code.Remembered.{IsRemembered, KeepsPart};
 ghost use Rattle.td_plan.specs.code.StepViews.{step_view};
@@ -252,7 +253,12 @@ fn named_step(alloc: Global, places: &mut usize, step: Step) -> Result<NamedStep
         Step::If(condition, consequent, alternative) => {
             choice(alloc, places, condition, consequent, alternative)
         }
-        Step::Bound(slot, items, value) => bound(alloc, places, slot, items, value),
+        Step::Bound {
+            slot,
+            reach: _,
+            items,
+            value,
+        } => bound(alloc, places, slot, items, value),
         Step::Once {
             place: _,
             reach: _,
@@ -401,6 +407,33 @@ pub(crate) fn all_inside_both(
     joined(first, &second)
 }
 
+/// The slots that tuples in slots of their own and what stands behind them name together, and the
+/// first one from which on the tuples name none but their own.
+#[derive(Drop)]
+pub(crate) struct BoundNames {
+    pub(crate) names: Vec<usize>,
+    pub(crate) reach: usize,
+}
+
+/// The slots that tuples in slots from this one on name beside their own, those that what stands
+/// behind them names too, and how far the tuples reach.
+fn bound_names(
+    alloc: Global,
+    slot: usize,
+    each: &[Vec<usize>],
+    own: &[usize],
+) -> Result<BoundNames, AllocError>
+    ensures { IfOk result (λ bound. AreBoundNames slot (map (λ ns. ns.items) each.now) own.now
+        bound.names.items bound.reach) }
+{
+    let all = union_of(alloc, each)?;
+    let outer = before(alloc, slot, &all)?;
+    let reach = reach_of(&outer);
+    let inner = joined(all, own)?;
+    let names = before(alloc, slot, &inner)?;
+    Ok(BoundNames { names, reach })
+}
+
 /// Keeps the answers of parts of tuples that come into slots from this one on, and of what stands
 /// where they are in scope.
 #[cycle(remember)]
@@ -410,18 +443,17 @@ pub(crate) fn all_bound(
     slot: usize,
     items: &mut Vec<Step>,
     value: &mut Step,
-) -> Result<Vec<usize>, AllocError>
-    ensures { IfOk result (λ names. AreRememberedBound places.old places.new slot names.items
-        value.old items.old.items value.new items.new.items) }
+) -> Result<BoundNames, AllocError>
+    ensures { IfOk result (λ bound. AreRememberedBound places.old places.new slot bound.reach
+        bound.names.items value.old items.old.items value.new items.new.items) }
 {
     let own = remember(alloc, places, value)?;
     let each = remember_all(alloc, places, items)?;
-    let inner = joined(union_of(alloc, &each)?, &own)?;
-    let names = before(alloc, slot, &inner)?;
-    let reach = reach_of(&names);
+    let bound = bound_names(alloc, slot, &each, &own)?;
+    let reach = reach_of(&bound.names);
     keep_part(alloc, places, value, &own, reach)?;
     keep_all(alloc, places, items, &each, reach)?;
-    Ok(names)
+    Ok(bound)
 }
 
 /// A step with the parts whose answers are kept, and how many places these have.

@@ -86,7 +86,12 @@ impl Outline {
                 self.one(inner, "THEN", consequent)?;
                 self.one(inner, "ELSE", alternative)
             }
-            Step::Bound(_, items, value) => {
+            Step::Bound {
+                slot: _,
+                reach: _,
+                items,
+                value,
+            } => {
                 self.list(indent, "WITH", items)?;
                 self.one(inner, "VALUE", value)
             }

@@ -73,7 +73,13 @@ pub enum Step {
     SummarizeBy(Box<Step>, Attributes, Vec<(Name, Ty)>, Vec<Agg>, usize, Vec<Step>),
     If(Box<Step>, Box<Step>, Box<Step>),
     /// Tuples, each in a slot of its own from this one on, and what stands where they are in scope.
-    Bound(usize, Vec<Step>, Box<Step>),
+    /// The tuples name no slot from the reach up to the first of their own.
+    Bound {
+        slot: usize,
+        reach: usize,
+        items: Vec<Step>,
+        value: Box<Step>,
+    },
     /// A part that names no slot from the reach on. Its answer is kept, at the place, until a tuple
     /// comes into a slot before the reach.
     Once {

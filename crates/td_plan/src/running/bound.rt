@@ -1,11 +1,12 @@
 //! The value of what stands where the values of WITH's items are in scope.
-ghost use Rattle.std.specs.Prelude.{◌≡◌, IfOk, max, suc};
+ghost use Rattle.std.specs.Prelude.{◌≡◌, ◌<◌, ◌≤◌, IfOk, IfSome, max, suc};
 ghost use Rattle.td_eval.specs.Worlds.{World};
 ghost use Rattle.td_plan.specs.Plans.{bound, plan_value, plan_where_bound, slots_before};
-ghost use Rattle.td_plan.specs.code.Bindings.{IsEntered, IsMemoFrom, where_in_slot};
+ghost use Rattle.td_plan.specs.code.Bindings.{IsBehind, IsEntered, IsHoisted, IsMemoFrom};
+ghost use Rattle.td_plan.specs.code.Bindings.{where_in_slot};
 ghost use Rattle.td_plan.specs.code.Hands.{slots_in, slots_of};
-ghost use Rattle.td_plan.specs.code.Memos.{AreSound, IsMemo, IsMemoBelow, IsReady, IsSound, Keeps};
-ghost use Rattle.td_plan.specs.code.Memos.{Parts};
+ghost use Rattle.td_plan.specs.code.Memos.{AreSound, IsMemo, IsMemoBelow, IsReady, IsReadyBelow};
+ghost use Rattle.td_plan.specs.code.Memos.{IsSound, Keeps, KeepsBelow, Parts};
 ghost use Rattle.td_plan.specs.code.StepHeights.{step_height, steps_height};
 ghost use Rattle.td_plan.specs.code.StepViews.{step_view, steps_view};
 ghost use Rattle.td_plan.specs.code.ValuesBelow.{ValuesBelow};
@@ -13,25 +14,13 @@ ghost use Rattle.td_tree.specs.Outcomes.{Answers};
 
 use crate::plan::step::Step;
 use crate::running::evaluator::{Evaluator, InWorld};
-use crate::running::hand::{Hand, entered, put};
+use crate::running::hand::{Hand, Inside, all_again, entered, hand_of, put};
 use crate::running::memo::{Memo, forget};
 use std::alloc::{AllocError, Global};
 use td_eval::operators::asked::tuple_in;
 use td_tree::fault::Fault;
 use td_value::tuple::Tuple;
 use td_value::value::Value;
-
-/// Where these tuples are in scope, each in the slot of its place.
-#[inline]
-pub(crate) fn hand_of(rows: &[Option<Tuple>]) -> Hand<'_, '_>
-    ensures { slots_of result ≡ slots_in rows.now }
-{
-    Hand {
-        tuple: None,
-        slot: rows.len(),
-        outer: rows,
-    }
-}
 
 /// The tuples in the slots before this one. What is kept and names it is forgotten.
 #[inline(never)]
@@ -50,6 +39,26 @@ fn rows_before(
     let mut rows = inside.outer;
     rows.truncate(slot);
     Ok(rows)
+}
+
+/// The tuples in the slots before this one again.
+fn again_before(
+    alloc: Global,
+    outer: &[Option<Tuple>],
+    slot: usize,
+) -> Result<Vec<Option<Tuple>>, AllocError>
+    ensures { IfOk result (λ copy. slots_in copy.items ≡ slots_before slot (slots_in outer.now)) }
+{
+    let mut copy = all_again(alloc, outer)?;
+    copy.truncate(slot);
+    Ok(copy)
+}
+
+/// A loop where the tuples of WITH's items are in scope already, and what stands behind them.
+#[derive(Drop)]
+pub(crate) struct Hoisted<'s> {
+    pub(crate) inside: Inside,
+    pub(crate) step: &'s Step,
 }
 
 impl<A: InWorld, F> Evaluator<'_, A, F>
@@ -156,5 +165,89 @@ where
         let answer = self.value_behind(memo, &mut rows, slot, items, value);
         forget(memo, slot);
         answer
+    }
+
+    // ---- items that are the same in each tuple of a loop
+
+    /// The loop where the tuples that items have are in scope in slots from this one on, if they
+    /// all have one.
+    #[inline(never)]
+    fn behind(
+        &self,
+        memo: &mut Memo,
+        inside: &Inside,
+        slot: usize,
+        items: &[Step],
+    ) -> Option<Inside>
+        requires below { ValuesBelow A.world self.now (suc (steps_height items.now)) F.pre F.post }
+        requires ready { IsReadyBelow (A.world self.now.around.now) inside.now.slot
+            (slots_in inside.now.outer.items) memo.old (λ ps. AreSound ps items.now) }
+        requires order { inside.now.slot < slot }
+        ensures { KeepsBelow (A.world self.now.around.now) inside.now.slot
+            (slots_in inside.now.outer.items) memo.old memo.new (λ ps. AreSound ps items.now)
+            (IfSome result (IsBehind (A.world self.now.around.now) inside.now slot
+            (steps_view items.now))) }
+    {
+        let Ok(mut rows) = again_before(self.alloc, &inside.outer, slot) else {
+            return None;
+        };
+        let bound = self.bind_all(memo, &mut rows, slot, items);
+        forget(memo, inside.slot);
+        match bound {
+            Ok(()) => Some(Inside {
+                slot: inside.slot,
+                outer: rows,
+            }),
+            Err(_) => None,
+        }
+    }
+
+    /// The loop where the items of a WITH are in scope already, and what stands behind them, if
+    /// the items name no tuple that the loop goes over, and there are such tuples.
+    #[inline(never)]
+    pub(crate) fn hoisted<'s>(
+        &self,
+        memo: &mut Memo,
+        inside: &Inside,
+        rows: &[Tuple],
+        step: &'s Step,
+    ) -> Option<Hoisted<'s>>
+        requires below { ValuesBelow A.world self.now (suc (step_height step.now)) F.pre F.post }
+        requires ready { IsReadyBelow (A.world self.now.around.now) inside.now.slot
+            (slots_in inside.now.outer.items) memo.old (λ ps. IsSound ps step.now) }
+        ensures height { IfSome result (λ h. step_height h.step.now ≤ step_height step.now) }
+        ensures sound { (ps : Parts) → IsSound ps step.now
+            → IfSome result (λ h. IsSound ps h.step.now) }
+        ensures kept { KeepsBelow (A.world self.now.around.now) inside.now.slot
+            (slots_in inside.now.outer.items) memo.old memo.new (λ ps. IsSound ps step.now)
+            (IfSome result (λ h. IsHoisted (A.world self.now.around.now) inside.now step.now
+            h.inside h.step.now)) }
+    {
+        if rows.is_empty() {
+            return None;
+        }
+        match step {
+            Step::Bound {
+                slot,
+                reach,
+                items,
+                value,
+            } => {
+                if inside.slot < *reach {
+                    return None;
+                }
+                if *slot <= inside.slot {
+                    return None;
+                }
+                let Some(inner) = self.behind(memo, inside, *slot, items) else {
+                    return None;
+                };
+                Some(Hoisted {
+                    inside: inner,
+                    step: value,
+                })
+            }
+            _ => None,
+        }
     }
 }

@@ -45,7 +45,7 @@ fn value_at(tuple: &Tuple, place: usize) -> Result<Value, Fault>
 
 /// The tuple in a slot further out.
 #[inline]
-fn outer_tuple(outer: &[Option<Tuple>], slot: usize) -> Option<&Tuple>
+pub(crate) fn outer_tuple(outer: &[Option<Tuple>], slot: usize) -> Option<&Tuple>
     ensures { cells_lent result ≡ slots_in outer.now slot }
 {
     match outer.get(slot) {
@@ -87,6 +87,18 @@ pub(crate) fn hand_inside<'h>(inside: &'h Inside, row: &'h Tuple) -> Hand<'h, 'h
     }
 }
 
+/// Where these tuples are in scope, each in the slot of its place.
+#[inline]
+pub(crate) fn hand_of(rows: &[Option<Tuple>]) -> Hand<'_, '_>
+    ensures { slots_of result ≡ slots_in rows.now }
+{
+    Hand {
+        tuple: None,
+        slot: rows.len(),
+        outer: rows,
+    }
+}
+
 /// A tuple again, if there is one.
 fn again(row: &Option<Tuple>) -> Result<Option<Tuple>, AllocError>
     ensures { IfOk result (λ copy. cells_of copy ≡ cells_of row.now) }
@@ -98,7 +110,10 @@ fn again(row: &Option<Tuple>) -> Result<Option<Tuple>, AllocError>
 }
 
 /// The tuples again, with room for one more.
-fn all_again(alloc: Global, rows: &[Option<Tuple>]) -> Result<Vec<Option<Tuple>>, AllocError>
+pub(crate) fn all_again(
+    alloc: Global,
+    rows: &[Option<Tuple>],
+) -> Result<Vec<Option<Tuple>>, AllocError>
     ensures { IfOk result (λ copy. slots_in copy.items ≡ slots_in rows.now) }
 {
     let mut copy = Vec::with_capacity(alloc, rows.len().saturating_add(1))?;

@@ -4,7 +4,7 @@ ghost use Rattle.std.specs.List.{slice_get};
 ghost use Rattle.td_eval.specs.OperatorValues.{comparison_value, operator_value, prefix_value};
 ghost use Rattle.td_eval.specs.Worlds.{World};
 ghost use Rattle.td_plan.specs.Plans.{value_or};
-ghost use Rattle.td_plan.specs.code.Hands.{slots_of};
+ghost use Rattle.td_plan.specs.code.Hands.{slots_in, slots_of};
 ghost use Rattle.td_plan.specs.code.Memos.{IsMemo, IsSound, Parts};
 ghost use Rattle.td_plan.specs.code.Quick.{IsQuick};
 ghost use Rattle.td_plan.specs.code.Runs.{step_value};
@@ -15,7 +15,7 @@ ghost use Rattle.td_value.specs.Values.{Val, boolean, char, integer};
 ghost use Rattle.td_value.specs.code.Views.{values_of};
 
 use crate::plan::step::{Dyadic, Monadic, Step};
-use crate::running::hand::{Hand, tuple_in};
+use crate::running::hand::{Hand, outer_tuple, tuple_in};
 use crate::running::memo::{Memo, lent_answer};
 use td_tree::operator::{Comparison, Operator, Prefix};
 use td_value::tuple::Tuple;
@@ -29,6 +29,17 @@ pub(crate) fn lent_value(tuple: &Tuple, place: usize) -> Option<&Value>
     ensures { IsQuick (λ v. v.now) result (value_or (slice_get (values_of tuple.now) place)) }
 {
     tuple.values().get(place)
+}
+
+/// The attribute at a place of the tuple in a slot further out.
+#[inline]
+pub(crate) fn outer_value(outer: &[Option<Tuple>], slot: usize, place: usize) -> Option<&Value>
+    ensures { IsQuick (λ v. v.now) result (value_or (slice_get (slots_in outer.now slot) place)) }
+{
+    match outer_tuple(outer, slot) {
+        Some(tuple) => lent_value(tuple, place),
+        None => None,
+    }
 }
 
 /// The attribute at a place of the tuple in a slot.

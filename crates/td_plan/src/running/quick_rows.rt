@@ -5,6 +5,7 @@ ghost use Rattle.std.specs.List.{slice_get};
 ghost use Rattle.td_eval.specs.OperatorValues.{comparison_value, operator_value, prefix_value};
 ghost use Rattle.td_eval.specs.Worlds.{World};
 ghost use Rattle.td_plan.specs.Plans.{value_or};
+ghost use Rattle.td_plan.specs.code.Hands.{slots_in};
 ghost use Rattle.td_plan.specs.code.Memos.{IsSound, Parts};
 ghost use Rattle.td_plan.specs.code.Quick.{AreInRows, AreQuick, IsQuick};
 ghost use Rattle.td_plan.specs.code.QuickInside.{AreQuickInside, IsMemoInside, value_inside};
@@ -17,8 +18,8 @@ use crate::plan::step::{Dyadic, Monadic, Step};
 use crate::running::hand::{Inside, hand_inside};
 use crate::running::memo::Memo;
 use crate::running::quick::{
-    lent_value, number_in, numbers_compared, numbers_operated, quick_number, quick_truth,
-    truths_operated,
+    lent_value, number_in, numbers_compared, numbers_operated, outer_value, quick_number,
+    quick_truth, truths_operated,
 };
 use std::alloc::{AllocError, Global};
 use td_tree::operator::{Comparison, Operator, Prefix};
@@ -65,6 +66,23 @@ fn attribute_numbers(
         numbers.push(z)?;
     }
     Ok(Some(numbers))
+}
+
+/// A number that is an attribute of a tuple further out, once for each tuple.
+fn outer_numbers(
+    alloc: Global,
+    outer: &[Option<Tuple>],
+    slot: usize,
+    place: usize,
+    count: usize,
+) -> Result<Option<Vec<i64>>, AllocError>
+    ensures { IfOk result (λ found. (ts : List Tuple) → length ts ≡ count
+        → AreQuick integer (λ t. value_or (slice_get (slots_in outer.now slot) place)) ts found) }
+{
+    match outer_value(outer, slot, place) {
+        Some(value) => constant_numbers(alloc, value, count),
+        None => Ok(None),
+    }
 }
 
 /// The number that a step gives in a tuple.
@@ -151,7 +169,7 @@ fn quick_numbers(
             if *slot == inside.slot {
                 attribute_numbers(alloc, rows, *place)
             } else {
-                single_numbers(alloc, memo, inside, rows, step)
+                outer_numbers(alloc, &inside.outer, *slot, *place, rows.len())
             }
         }
         Step::Dyadic(left, op, right) => match op {

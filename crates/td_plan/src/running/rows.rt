@@ -192,9 +192,9 @@ where
         }
     }
 
-    /// The truth values of a condition in the tuples of a loop.
+    /// The truth values of a condition in tuples, one after the other where they are few.
     #[inline(never)]
-    pub(crate) fn truths(
+    fn truths_asked(
         &self,
         memo: &mut Memo,
         inside: &Inside,
@@ -217,9 +217,34 @@ where
         }
     }
 
-    /// The values of a step in the tuples of a loop.
+    /// The truth values of a condition in the tuples of a loop. Items of WITH that do not name
+    /// these tuples are put in scope before.
     #[inline(never)]
-    pub(crate) fn values_in_rows(
+    pub(crate) fn truths(
+        &self,
+        memo: &mut Memo,
+        inside: &Inside,
+        rows: &[Tuple],
+        condition: &Step,
+    ) -> Result<Vec<bool>, Fault>
+        requires below { ValuesBelow A.world self.now (suc (step_height condition.now))
+            F.pre F.post }
+        requires ready { IsReadyBelow (A.world self.now.around.now) inside.now.slot
+            (slots_in inside.now.outer.items) memo.old (λ ps. IsSound ps condition.now) }
+        ensures { KeepsBelow (A.world self.now.around.now) inside.now.slot
+            (slots_in inside.now.outer.items) memo.old memo.new (λ ps. IsSound ps condition.now)
+            (Answers (λ m. m.items) result (truths_in (A.world self.now.around.now)
+            (slots_in inside.now.outer.items) inside.now.slot condition.now rows.now)) }
+    {
+        match self.hoisted(memo, inside, rows, condition) {
+            Some(hoisted) => self.truths_asked(memo, &hoisted.inside, rows, hoisted.step),
+            None => self.truths_asked(memo, inside, rows, condition),
+        }
+    }
+
+    /// The values of a step in tuples, one after the other.
+    #[inline(never)]
+    fn values_by_row(
         &self,
         memo: &mut Memo,
         inside: &Inside,
@@ -243,11 +268,36 @@ where
         causes.finish(values)
     }
 
+    /// The values of a step in the tuples of a loop. Items of WITH that do not name these tuples
+    /// are put in scope before.
+    #[inline(never)]
+    pub(crate) fn values_in_rows(
+        &self,
+        memo: &mut Memo,
+        inside: &Inside,
+        rows: &[Tuple],
+        step: &Step,
+    ) -> Result<Vec<Value>, Fault>
+        requires below { ValuesBelow A.world self.now (suc (step_height step.now)) F.pre F.post }
+        requires ready { IsReadyBelow (A.world self.now.around.now) inside.now.slot
+            (slots_in inside.now.outer.items) memo.old (λ ps. IsSound ps step.now) }
+        ensures { KeepsBelow (A.world self.now.around.now) inside.now.slot
+            (slots_in inside.now.outer.items) memo.old memo.new (λ ps. IsSound ps step.now)
+            (Answers (λ vs. vs.items) result (gathered (map (value_in
+            (A.world self.now.around.now) (slots_in inside.now.outer.items) inside.now.slot
+            step.now) rows.now))) }
+    {
+        match self.hoisted(memo, inside, rows, step) {
+            Some(hoisted) => self.values_by_row(memo, &hoisted.inside, rows, hoisted.step),
+            None => self.values_by_row(memo, inside, rows, step),
+        }
+    }
+
     // ---- new attributes
 
-    /// The values of a step in the tuples of a loop, which are of a type.
+    /// The values of a step in tuples, one after the other, which are of a type.
     #[inline(never)]
-    fn column(
+    fn column_by_row(
         &self,
         memo: &mut Memo,
         inside: &Inside,
@@ -271,6 +321,32 @@ where
             causes.collect(&mut values, value)?;
         }
         causes.finish(values)
+    }
+
+    /// The values of a step in the tuples of a loop, which are of a type. Items of WITH that do
+    /// not name these tuples are put in scope before.
+    #[inline(never)]
+    fn column(
+        &self,
+        memo: &mut Memo,
+        inside: &Inside,
+        rows: &[Tuple],
+        ty: &Ty,
+        step: &Step,
+    ) -> Result<Vec<Value>, Fault>
+        requires below { ValuesBelow A.world self.now (suc (step_height step.now)) F.pre F.post }
+        requires ready { IsReadyBelow (A.world self.now.around.now) inside.now.slot
+            (slots_in inside.now.outer.items) memo.old (λ ps. IsSound ps step.now) }
+        ensures { KeepsBelow (A.world self.now.around.now) inside.now.slot
+            (slots_in inside.now.outer.items) memo.old memo.new (λ ps. IsSound ps step.now)
+            (Answers (λ vs. vs.items) result (column_values (type_view ty.now) (value_in
+            (A.world self.now.around.now) (slots_in inside.now.outer.items) inside.now.slot
+            step.now) rows.now)) }
+    {
+        match self.hoisted(memo, inside, rows, step) {
+            Some(hoisted) => self.column_by_row(memo, &hoisted.inside, rows, ty, hoisted.step),
+            None => self.column_by_row(memo, inside, rows, ty, step),
+        }
     }
 
     /// The new attributes with their values in the tuples of a loop.

@@ -100,7 +100,12 @@ pub(crate) fn run<B: Body>(
             inner.summary_by(memo, hand, operand, by, &items)
         }
         Step::If(condition, yes, no) => inner.choice(memo, hand, condition, yes, no),
-        Step::Bound(slot, items, value) => inner.bound(memo, hand, *slot, items, value),
+        Step::Bound {
+            slot,
+            reach: _,
+            items,
+            value,
+        } => inner.bound(memo, hand, *slot, items, value),
         Step::Once { place, reach, part } => inner.once(memo, hand, *place, *reach, part),
     }
 }

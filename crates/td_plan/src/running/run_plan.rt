@@ -13,7 +13,7 @@ ghost use Rattle.td_tree.specs.Outcomes.{Answers, Outcome};
 ghost use Rattle.td_value.specs.Values.{Tuple, Val};
 
 use crate::plan::Plan;
-use crate::running::hand::Hand;
+use crate::running::hand::hand_of;
 use crate::running::memo::new_memo;
 use crate::running::run::run;
 use crate::running::surroundings::Surroundings;
@@ -47,12 +47,7 @@ fn run_in<B: Body>(
         (plan_value (world_around around.now) (slots_in rows.now) (plan_view plan.now)) }
 {
     let mut memo = new_memo(around.alloc, plan.places)?;
-    let hand = Hand {
-        tuple: None,
-        slot: rows.len(),
-        outer: rows,
-    };
-    run(around, &mut memo, &hand, &plan.step)
+    run(around, &mut memo, &hand_of(rows), &plan.step)
 }
 
 /// What the plan is for, with the virtual relvars that have been evaluated.

@@ -1,5 +1,5 @@
 //! Each kind of step that has parts, with those whose answers are kept.
-ghost use Rattle.std.specs.Prelude.{IfOk};
+ghost use Rattle.std.specs.Prelude.{IfOk, ℕ};
 ghost use Rattle.td_plan.specs.code.Remembered.{IsRemembered};
 ghost use Rattle.td_plan.specs.declared.plan.step.Step.TheVariants as variants;
 
@@ -241,14 +241,20 @@ pub(crate) fn bound(
     items: Vec<Step>,
     value: Box<Step>,
 ) -> Result<NamedStep, AllocError>
-    ensures { IfOk result (λ named. IsRemembered places.old places.new named.names.items
-        (variants.Bound slot items value) named.step) }
+    ensures { IfOk result (λ named. (reach : ℕ) → IsRemembered places.old places.new
+        named.names.items (variants.Bound slot reach items value) named.step) }
 {
     let mut items = items;
     let mut value = value;
-    let names = all_bound(alloc, places, slot, &mut items, &mut value)?;
+    let bound = all_bound(alloc, places, slot, &mut items, &mut value)?;
+    let step = Step::Bound {
+        slot,
+        reach: bound.reach,
+        items,
+        value,
+    };
     Ok(NamedStep {
-        step: Step::Bound(slot, items, value),
-        names,
+        step,
+        names: bound.names,
     })
 }

@@ -1,15 +1,15 @@
 use Rattle.std.proofs.Common.{◌≡◌, ◌∙◌, ◌<◌, ◌≤◌, ◌+◌, ◌++◌, ◌∷◌, [], List, ap, arith, length, map, refl, slice_set, subst, sym, take, ℕ}
 use Rattle.std.proofs.lemmas.List.{length-map, map_push}
+use Rattle.std.proofs.lemmas.Result.{IfOk-weaker}
 use Rattle.std.specs.Global.{Vec}
 use Rattle.td_plan.proofs.EachStep.{each_all, each_next}
-use Rattle.td_plan.proofs.NamedSlots.{all_among_more}
 use Rattle.td_plan.proofs.Remembering.{all_made, all_remembered, among_but_more, bound_made, bound_remembered, inside_both_made, inside_both_remembered, inside_made, inside_remembered, kept_view, leaf_remembered, listed, ok_by_both, one_remembered, three_made, three_remembered, two_placed, two_remembered}
 use Rattle.td_plan.proofs.RememberedRows.{part_deep, parts_deep, parts_sound}
-use Rattle.td_plan.proofs.StepRows.{bound_is, select_is, steps_are}
+use Rattle.td_plan.proofs.StepRows.{select_is, steps_are}
 use Rattle.td_plan.proofs.Withins.{aggregate_on, attribute_on, bound_on, choice_on, dyadic_on, extend_on, look_up_on, monadic_on, on_more, restriction_on, select_on, summarize_by_on, summarize_per_on}
 use Rattle.td_plan.specs.Plans as plans
-use Rattle.td_plan.specs.code.Memos.{IsOn}
-use Rattle.td_plan.specs.code.Remembered.{AreAllAmong, AreAmong, AreAmongBefore, AreAmongBut, AreEachKept, AreEachRemembered, IsRemembered, KeepsPart}
+use Rattle.td_plan.specs.code.Memos.{AreApart, IsOn}
+use Rattle.td_plan.specs.code.Remembered.{AreAllAmong, AreAmong, AreAmongBut, AreBoundNames, AreEachKept, AreEachRemembered, IsRemembered, KeepsPart}
 use Rattle.td_plan.specs.code.StepHeights.{step_height}
 use Rattle.td_plan.specs.code.StepViews.{dyadic_view, monadic_view, selector_view, step_view}
 use Rattle.td_tree.specs.code.TreeViews.{attributes_view}
@@ -278,34 +278,40 @@ named_step-summarize_per-requires t c =
 
 pub all_bound-keep_all-requires : goal.all_bound-keep_all-requires
 all_bound-keep_all-requires t c =
-    ap length c.deref-6.ensures.value ∙ sym (length-map c.in_ok-each.each.items (λ (ns : Vec ℕ). ns.items)) ∙ (listed _ _ _ _ _ c.in_ok-each.ensures).lengths
+    ap length c.deref-5.ensures.value ∙ sym (length-map c.in_ok-each.each.items (λ (ns : Vec ℕ). ns.items)) ∙ (listed _ _ _ _ _ c.in_ok-each.ensures).lengths
 
 pub all_bound-returns : goal.all_bound-returns
 all_bound-returns t c =
     let items = λ (ns : Vec ℕ). ns.items in
     let own = c.in_ok-own.own.items in
-    let inner = c.in_ok-inner.inner.items in
-    let names = c.in_ok-names.names.items in
-    bound_remembered _ _ _ _ _ c.args.slot own (map items c.in_ok-each.each.items) inner names _ _ _ _ _ _ c.in_ok-own.ensures c.in_ok-each.ensures
-    (all_among_more (map items c.in_ok-each.each.items) c.in_ok-union_of.field-0.items inner
-    (subst (λ (nss : List (Vec ℕ)). AreAllAmong (map items nss) c.in_ok-union_of.field-0.items) c.deref.ensures.value c.in_ok-union_of.ensures) c.in_ok-inner.ensures.first)
-    (subst (λ ns. AreAmong ns inner) c.deref-2.ensures.value c.in_ok-inner.ensures.second)
-    (subst (λ ns. AreAmongBefore c.args.slot ns names) c.deref-3.ensures.value c.in_ok-names.ensures)
-    (subst (λ ns. KeepsPart c.remember_all.new.places c.keep_part.new.places ns c.remember.new.step c.keep_part.new.step) c.deref-5.ensures.value c.in_ok-keep_part.ensures)
-    (subst (λ (nss : List (Vec ℕ)). AreEachKept c.keep_part.new.places c.keep_all.new.places (map items nss) c.remember_all.new.steps.items c.keep_all.new.steps.items) c.deref-6.ensures.value
+    let slot = c.args.slot in
+    let names = c.in_ok-bound.bound.names.items in
+    let reach = c.in_ok-bound.bound.reach in
+    bound_remembered _ _ _ _ _ slot reach own (map items c.in_ok-each.each.items) names _ _ _ _ _ _ c.in_ok-own.ensures c.in_ok-each.ensures
+    (subst (λ (nss : List (Vec ℕ)). AreBoundNames slot (map items nss) own names reach) c.deref.ensures.value
+    (subst (λ ns. AreBoundNames slot (map items c.deref.result.now) ns names reach) c.deref-2.ensures.value c.in_ok-bound.ensures))
+    (subst (λ ns. KeepsPart c.remember_all.new.places c.keep_part.new.places ns c.remember.new.step c.keep_part.new.step) c.deref-4.ensures.value c.in_ok-keep_part.ensures)
+    (subst (λ (nss : List (Vec ℕ)). AreEachKept c.keep_part.new.places c.keep_all.new.places (map items nss) c.remember_all.new.steps.items c.keep_all.new.steps.items) c.deref-5.ensures.value
     c.in_ok-keep_all.ensures)
 
 pub nodes::bound-returns : goal.nodes::bound-returns
 nodes::bound-returns t c =
-    let names = c.in_ok-names.names.items in
+    let names = c.in_ok-bound.bound.names.items in
     let slot = c.args.slot in
-    bound_made (λ ps p. plans.bound slot ps p) _ _ slot names (λ inner ps p before f g. bound_on names inner slot before ps p f g) _ _ _ _ _ _ c.in_ok-names.ensures
+    let reach = c.in_ok-bound.bound.reach in
+    λ was.
+    bound_made (λ ps p. plans.bound slot ps p) _ _ slot reach names (λ inner ps p before f g. bound_on names inner slot before ps p f g) _ _ _ _ _ _ c.in_ok-bound.ensures
     (λ i. plans.bound slot (steps_are c.args.items i) (step_view (sym c.deref_mut.ensures.value i)))
     (ap (λ ps. plans.bound slot ps (step_view c.all_bound.new.value)) (steps_are c.all_bound.new.items))
-    (λ ps s. (parts_sound ps c.all_bound.new.items s.0, s.1))
+    (λ ps s. (parts_sound ps c.all_bound.new.items s.0.0, s.0.1, subst (AreApart reach slot) (sym (steps_are c.all_bound.new.items)) s.1))
 
 pub named_step-bound-requires : goal.named_step-bound-requires
 named_step-bound-requires t c =
     let is = ap step_height c.in-Bound.is in
     let parts = parts_deep c.in-Bound.items in
     (omega (arith, c.decreases, is, parts), tt)
+
+pub named_step-returns-in-Bound : goal.named_step-returns-in-Bound
+named_step-returns-in-Bound t c =
+    IfOk-weaker c.bound.result _ _ (λ named h.
+    subst (λ s. IsRemembered c.args.places.now c.bound.new.places named.names.items s named.step) (sym c.in-Bound.is) (h c.in-Bound.reach)) c.bound.ensures

@@ -1,8 +1,11 @@
 use Rattle.std.proofs.Common.{◌∙◌, ap, refl, subst, sym}
 use Rattle.std.proofs.lemmas.Result.{IfOk-weaker}
-use Rattle.td_plan.proofs.QuickRows.{found_in, of_attribute, of_plan}
+use Rattle.std.specs.List.{slice_get}
+use Rattle.td_plan.proofs.QuickRows.{found_in, of_attribute, of_outer, of_plan}
 use Rattle.td_plan.specs.Plans as plans
+use Rattle.td_plan.specs.code.Hands.{slots_in}
 use Rattle.td_plan.specs.code.Memos.{IsSound}
+use Rattle.td_plan.specs.code.Quick.{AreQuick}
 use Rattle.td_plan.specs.code.QuickInside.{value_inside}
 use Rattle.td_plan.specs.code.StepViews.{dyadic_view, step_view}
 use Rattle.td_value.specs.Values.{integer}
@@ -22,11 +25,22 @@ returns-then-slot-inside t c =
     (of_attribute integer w c.args.inside.now i.slot i.place c.args.rows.now found c.if-slot-inside.true k))
     c.attribute_numbers.ensures
 
+pub returns-in-Attribute : goal.returns-in-Attribute
+returns-in-Attribute t c =
+    let i = c.in-Attribute in
+    let inside = c.args.inside.now in
+    let rows = c.args.rows.now in
+    IfOk-weaker c.outer_numbers.result _ _ (λ found k ps w sound m.
+    of_plan integer w inside c.args.step.now (plans.attribute i.slot i.place) rows found (ap step_view i.is)
+    (of_outer integer w inside i.slot i.place rows found c.if-slot-inside.false
+    (subst (λ outer. AreQuick integer (λ t. plans.value_or (slice_get (slots_in outer i.slot) i.place)) rows found) c.deref.ensures.value (k rows refl))))
+    c.outer_numbers.ensures
+
 pub returns-in-Operator : goal.returns-in-Operator
 returns-in-Operator t c =
     let i = c.in-Dyadic in
     let o = c.in-Operator in
-    let left = c.deref.result.now in
+    let left = c.deref-in-Operator.result.now in
     let right = c.deref-in-Some.result.now in
     let rows = c.args.rows.now in
     IfOk-weaker c.numbers_of_both.result _ _ (λ found k ps w sound m.
@@ -34,8 +48,8 @@ returns-in-Operator t c =
     let f = value_inside w c.args.inside.now left in
     let g = value_inside w c.args.inside.now right in
     of_plan integer w c.args.inside.now c.args.step.now (plans.dyadic (step_view left) (plans.operator o.op) (step_view right)) rows found
-    (ap step_view i.is ∙ (λ j. plans.dyadic (step_view (sym c.deref.ensures j)) (dyadic_view (o.is j)) (step_view (sym c.deref-in-Some.ensures j))))
+    (ap step_view i.is ∙ (λ j. plans.dyadic (step_view (sym c.deref-in-Operator.ensures j)) (dyadic_view (o.is j)) (step_view (sym c.deref-in-Some.ensures j))))
     (k f g rows
-    (found_in integer f rows _ c.in-Some.left c.in-Some.is (c.in_ok-quick_numbers-in-Operator.ensures ps w (subst (IsSound ps) (sym c.deref.ensures) both.0) m) c.deref-in-Some-2.result.now c.deref-in-Some-2.ensures.value)
+    (found_in integer f rows _ c.in-Some.left c.in-Some.is (c.in_ok-quick_numbers-in-Operator.ensures ps w (subst (IsSound ps) (sym c.deref-in-Operator.ensures) both.0) m) c.deref-in-Some-2.result.now c.deref-in-Some-2.ensures.value)
     (found_in integer g rows _ c.in-Some-2.right c.in-Some-2.is (c.in_ok-quick_numbers-in-Some.ensures ps w (subst (IsSound ps) (sym c.deref-in-Some.ensures) both.1) m) c.deref-in-Some-2-2.result.now c.deref-in-Some-2-2.ensures.value)))
     c.numbers_of_both.ensures

@@ -100,17 +100,17 @@ returns-in-SummarizeBy g t c =
 
 pub bound-requires-clause-below : goal.bound-requires-clause-below
 bound-requires-clause-below g t c =
-    let made = bound_made c.args.step.now c.in-Bound.items c.deref-in-Bound.result.now c.deref-in-Bound.ensures.value c.in-Bound.slot c.in-Bound.value c.deref-in-Bound-2.result.now c.in-Bound.is c.deref-in-Bound-2.ensures in
+    let made = bound_made c.args.step.now c.in-Bound.items c.deref-in-Bound.result.now c.deref-in-Bound.ensures.value c.in-Bound.slot _ c.in-Bound.value c.deref-in-Bound-2.result.now c.in-Bound.is c.deref-in-Bound-2.ensures in
     let h = made.height in
     record { callable = λ memo hand step low ready. (omega (arith, c.decreases, h, low), (λ a m. m, (subst (λ a. AreSurroundings a) (sym c.new-inner.ensures.around) c.requires.around, ready))); values = λ memo hand step answer after p. p }
 
 pub bound-requires-clause-ready : goal.bound-requires-clause-ready
 bound-requires-clause-ready g t c =
-    let made = bound_made c.args.step.now c.in-Bound.items c.deref-in-Bound.result.now c.deref-in-Bound.ensures.value c.in-Bound.slot c.in-Bound.value c.deref-in-Bound-2.result.now c.in-Bound.is c.deref-in-Bound-2.ensures in
+    let made = bound_made c.args.step.now c.in-Bound.items c.deref-in-Bound.result.now c.deref-in-Bound.ensures.value c.in-Bound.slot _ c.in-Bound.value c.deref-in-Bound-2.result.now c.in-Bound.is c.deref-in-Bound-2.ensures in
     made_ready made (ap world_around c.new-inner.ensures.around) c.requires.ready
 
 pub returns-in-Bound : goal.returns-in-Bound
 returns-in-Bound g t c =
-    let made = bound_made c.args.step.now c.in-Bound.items c.deref-in-Bound.result.now c.deref-in-Bound.ensures.value c.in-Bound.slot c.in-Bound.value c.deref-in-Bound-2.result.now c.in-Bound.is c.deref-in-Bound-2.ensures in
+    let made = bound_made c.args.step.now c.in-Bound.items c.deref-in-Bound.result.now c.deref-in-Bound.ensures.value c.in-Bound.slot _ c.in-Bound.value c.deref-in-Bound-2.result.now c.in-Bound.is c.deref-in-Bound-2.ensures in
     made_run c.args.step.now _ _ _ (world_around c.new-inner.result.around.now) (world_around c.args.around.now) (slots_of c.args.hand.now) c.args.memo.now c.bound.new.memo c.bound.result made
     (ap world_around c.new-inner.ensures.around) c.bound.ensures

@@ -65,6 +65,6 @@ returns g c =
     let value = tree_view c.args.value.now in
     let box = c.in_ok-new.field-0 in
     subst (λ p. IsPlanOfTyped scope p (trees.binding (named_view items) value))
-    (sym (bound_is slot steps box ∙ ap (λ v. plans.bound slot (steps_view steps.items) (step_view v)) c.in_ok-new.ensures.ok))
+    (sym (bound_is slot slot steps box ∙ ap (λ v. plans.bound slot (steps_view steps.items) (step_view v)) c.in_ok-new.ensures.ok))
     (bound_planned scope slot steps.items (step_view c.in_ok-value.value) (named_view items) value last c.next_slot-slot.ensures
     (all_planned scope items c.loop-item.item-index steps.items last c.loop-item-test.false c.loop-item.invariant.1) c.in_ok-value.ensures)

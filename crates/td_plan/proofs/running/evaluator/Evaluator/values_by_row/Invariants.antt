@@ -3,7 +3,7 @@ use Rattle.td_plan.specs.code.Hands.{slots_in}
 use Rattle.td_plan.specs.code.Memos.{IsSound, KeepsBelow}
 use Rattle.td_plan.specs.code.Runs.{value_in}
 use Rattle.td_tree.specs.Gatherings.{IsGathered}
-use Rattle.td_plan.proofs.running.evaluator.Evaluator.values_in_rows.Given as goal
+use Rattle.td_plan.proofs.running.evaluator.Evaluator.values_by_row.Given as goal
 
 abbrev pub invariant-loop-row : goal.invariant-loop-row
 invariant-loop-row g l =

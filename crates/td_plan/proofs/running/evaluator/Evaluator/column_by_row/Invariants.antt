@@ -6,7 +6,7 @@ use Rattle.td_tree.specs.Gatherings.{IsGathered}
 use Rattle.td_eval.specs.OperatorValues.{value_of_type}
 use Rattle.td_tree.specs.Outcomes.{with_value}
 use Rattle.td_types.specs.code.Views.{type_view}
-use Rattle.td_plan.proofs.running.evaluator.Evaluator.column.Given as goal
+use Rattle.td_plan.proofs.running.evaluator.Evaluator.column_by_row.Given as goal
 
 abbrev pub invariant-loop-row : goal.invariant-loop-row
 invariant-loop-row g l =
