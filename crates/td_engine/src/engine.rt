@@ -8,6 +8,7 @@ ghost use Rattle.td_engine.specs.Machine.{empty_state};
 ghost use Rattle.td_engine.specs.Machine.{rolled_back, step_of};
 ghost use Rattle.td_engine.specs.Rebuilding.{Rebuilds};
 ghost use Rattle.td_engine.specs.Legality.{IsLegalState};
+ghost use Rattle.td_engine.specs.code.Stages.{kept_for};
 ghost use Rattle.td_engine.specs.code.Steps.{Does, IsParsed, IsStep};
 ghost use Rattle.td_engine.specs.code.Transactions.{transaction_view};
 ghost use Rattle.td_tree.specs.Statements.{PlacedToken};
@@ -52,6 +53,15 @@ impl<B: Body> Model for Engine<B> {
     ghost view = { λ e. state_at e.present (reverse e.opens.items) };
 
     ghost invariant = { λ e. IsEngine e.present (reverse e.opens.items) };
+}
+
+/// Lets go of what the catalogue keeps, where no open transaction may go back to it.
+fn settle<B: Body>(present: &mut Present<B>, opens: &[usize])
+    ensures { present.new ≡ kept_for opens.now present.old }
+{
+    if opens.is_empty() {
+        present.settle();
+    }
 }
 
 impl<B: Body> Engine<B> {
@@ -155,17 +165,8 @@ impl<B: Body> Engine<B> {
         ensures legal { IsLegalState self.new }
     {
         let answer = self.present.execute(statement);
-        self.settle();
+        settle(&mut self.present, &self.opens);
         answer
-    }
-
-    /// Lets go of what the catalogue keeps, where no open transaction may go back to it.
-    fn settle(&mut self)
-        ensures { self.new ≡ self.old }
-    {
-        if self.opens.is_empty() {
-            self.present.settle();
-        }
     }
 
     /// Does what a statement of transactions means.
@@ -213,7 +214,7 @@ impl<B: Body> Engine<B> {
         let Some(_) = self.opens.pop() else {
             unreachable!()
         };
-        self.settle();
+        settle(&mut self.present, &self.opens);
         Ok(answer)
     }
 
@@ -232,7 +233,7 @@ impl<B: Body> Engine<B> {
             unreachable!()
         };
         self.present.revert(place);
-        self.settle();
+        settle(&mut self.present, &self.opens);
         Ok(answer)
     }
 }

@@ -2,7 +2,7 @@
 -- began (this project's own).
 use Rattle.std.specs.Prelude.{◌≡◌, ◌≤◌, ℕ, List, [], ◌∷◌, ◌++◌, get_or, length, map, ⊤}
 use Rattle.td_catalog.specs.Database.{Database}
-use Rattle.td_catalog.specs.KeptDatabases.{CatalogView, stages}
+use Rattle.td_catalog.specs.KeptDatabases.{CatalogView, settled_view, stages}
 use Rattle.td_engine.specs.Legality.{IsLegalState}
 use Rattle.td_engine.specs.Machine.{State, state_of}
 
@@ -23,7 +23,24 @@ Descend most (place ∷ places) = (place ≤ most) × Descend place places
 abbrev pub state_at : CatalogView → List ℕ → State
 state_at v opens = state_of v.database (map (stage v) opens)
 
--- an engine: its state is legal, and each open transaction began at one of the catalogue's stages
-pub record IsEngine (v : CatalogView) (opens : List ℕ) : Type 0 where
+-- the first to begin, which is the last of them, began where nothing was kept: nothing older is kept than what it can go back to
+abbrev pub BeginAtNone : List ℕ → Type 0
+BeginAtNone [] = ⊤
+BeginAtNone (place ∷ []) = place ≡ 0
+BeginAtNone (place ∷ next ∷ places) = BeginAtNone (next ∷ places)
+
+-- its state is legal, and each open transaction began at one of the catalogue's stages
+pub record GoesBack (v : CatalogView) (opens : List ℕ) : Type 0 where
   pub legal : IsLegalState (state_at v opens)
   pub places : Descend (length v.kept) opens
+  pub first : BeginAtNone opens
+
+-- an engine: nothing is kept where no transaction is open
+pub record IsEngine (v : CatalogView) (opens : List ℕ) : Type 0 where
+  pub back : GoesBack v opens
+  pub settled : opens ≡ [] → v.kept ≡ []
+
+-- what is left of a catalogue once nothing is kept that no open transaction may go back to
+abbrev pub kept_for : List ℕ → CatalogView → CatalogView
+kept_for [] v = settled_view v.database
+kept_for (place ∷ places) v = v
