@@ -1,6 +1,7 @@
 -- The heading of a tuple, built by adding one attribute after another.
-use Rattle.std.proofs.Common.{◌≡◌, ◌∙◌, ◌+◌, ◌<◌, ap, sym, refl, subst, arith, ℕ, List, [], ◌∷◌, ◌++◌, length, get_or, drop, take}
+use Rattle.std.proofs.Common.{◌≡◌, ◌∙◌, ◌+◌, ◌<◌, ap, sym, refl, subst, arith, false, ℕ, List, [], ◌∷◌, ◌++◌, length, get_or, drop, take}
 use Rattle.std.specs.declared.cmp.Ordering.TheVariants.{Less, Greater}
+use Rattle.std.specs.Cmp.Lexicographic.{texts_ties}
 use Rattle.std.specs.Ordering.{ordering_reverse}
 use Rattle.std.specs.List.{AllByRecursion}
 use Rattle.std.specs.List.Sorted.{IsStrictlySortedBy}
@@ -8,7 +9,7 @@ use Rattle.std.specs.FinMap.Entries.{put}
 use Rattle.std.proofs.lemmas.Cmp.{nat_list_cmp_total}
 use Rattle.std.proofs.lemmas.List.{at_drop_more, length-take, map-append, take-append-drop, take_more}
 use Rattle.td_types.specs.Types.{Type', attr, pack}
-use Rattle.td_types.specs.Headings.{with_attribute}
+use Rattle.td_types.specs.Headings.{has_attribute, with_attribute}
 use Rattle.td_value.specs.Values.{Val, Tuple, fields_type, heading_of, pack_fields, type_of}
 use Rattle.td_value.specs.code.Views.{tuple_view}
 use Rattle.td_types.proofs.DistinctNames.{name_cmp}
@@ -34,6 +35,25 @@ above_front (a ∷ fs) n bs h =
     in_middle [] g = g.0
     in_middle (c ∷ cs) g = in_middle cs g.1
 
+-- the names before a place are below the one at it
+before : (ns : List (List ℕ)) (i : ℕ) (n : List ℕ) → i < length ns → n ≡ get_or ns i n → IsStrictlySortedBy name_cmp ns
+    → AllByRecursion (λ m. name_cmp n m ≡ Greater) (take i ns)
+before ns i n k p h =
+    let rest : drop i ns ≡ n ∷ drop (i + 1) ns = at_drop_more (λ r. r) ns i n k ∙ ap (λ x. x ∷ drop (i + 1) ns) (sym p) in
+    let whole : ns ≡ take i ns ++ n ∷ drop (i + 1) ns = sym (take-append-drop i ns) ∙ ap (λ r. take i ns ++ r) rest in
+    above_front (take i ns) n (drop (i + 1) ns) (subst (IsStrictlySortedBy name_cmp) whole h)
+
+lacks_above : (n : List ℕ) (ns : List (List ℕ)) (vs : List Val) → AllByRecursion (λ m. name_cmp n m ≡ Greater) ns
+    → has_attribute n (heading_of (tuple_view ns vs)) ≡ false
+lacks_above n [] vs h = refl
+lacks_above n (m ∷ ns) [] h = refl
+lacks_above n (m ∷ ns) (v ∷ vs) h = rw (texts_ties m n, nat_list_cmp_total.antisymm m n, h.0) (lacks_above n ns vs h.1)
+
+-- the heading of the attributes before a place lacks the name at it
+pub heading_lacks : (ns : List (List ℕ)) (vs : List Val) (i : ℕ) (n : List ℕ) → i < length ns → n ≡ get_or ns i n
+    → IsStrictlySortedBy name_cmp ns → has_attribute n (heading_of (tuple_view (take i ns) (take i vs))) ≡ false
+heading_lacks ns vs i n k p h = lacks_above n (take i ns) (take i vs) (before ns i n k p h)
+
 pub zip-append : (ns : List (List ℕ)) (vs : List Val) (n : List ℕ) (v : Val) → length ns ≡ length vs → tuple_view (ns ++ n ∷ []) (vs ++ v ∷ []) ≡ tuple_view ns vs ++ (n, v) ∷ []
 zip-append [] [] n v e = refl
 zip-append [] (w ∷ vs) n v e = absurd (omega (arith, e))
@@ -48,8 +68,6 @@ heading_more ns vs i n v e k p q h =
     let names : take (i + 1) ns ≡ take i ns ++ n ∷ [] = take_more ns i n (omega (arith, e, k)) ∙ ap (λ x. take i ns ++ x ∷ []) (sym p) in
     let values : take (i + 1) vs ≡ take i vs ++ v ∷ [] = take_more vs i v k ∙ ap (λ x. take i vs ++ x ∷ []) (sym q) in
     let same : length (take i ns) ≡ length (take i vs) = omega (arith, length-take i ns, length-take i vs, e) in
-    let rest : drop i ns ≡ n ∷ drop (i + 1) ns = at_drop_more (λ r. r) ns i n (omega (arith, e, k)) ∙ ap (λ x. x ∷ drop (i + 1) ns) (sym p) in
-    let whole : ns ≡ take i ns ++ n ∷ drop (i + 1) ns = sym (take-append-drop i ns) ∙ ap (λ r. take i ns ++ r) rest in
-    let above = above_front (take i ns) n (drop (i + 1) ns) (subst (IsStrictlySortedBy name_cmp) whole h) in
+    let above = before ns i n (omega (arith, e, k)) p h in
     rw (names, values) (last_of n (type_of v) (take i ns) (take i vs) same above
     ∙ sym (ap heading_of (zip-append (take i ns) (take i vs) n v same) ∙ map-append (λ (f : List ℕ × Val). (f.0, type_of f.1)) (tuple_view (take i ns) (take i vs)) ((n, v) ∷ [])))

@@ -81,11 +81,11 @@ fn share_names(rows: &mut [Tuple]) -> Result<(), AllocError>
     take_names_after_first(rows, &names)
 }
 
-/// The tuples again, in a list of their own.
-fn copies_of(rows: &Vec<Tuple>) -> Result<Vec<Tuple>, AllocError>
+/// The tuples again, in a list of their own with room for so many.
+fn copies_of(rows: &Vec<Tuple>, room: usize) -> Result<Vec<Tuple>, AllocError>
     ensures { IfOk result (λ copy. copy.items ≡ rows.now.items) }
 {
-    let mut copy = Vec::with_capacity(*rows.allocator(), rows.len())?;
+    let mut copy = Vec::with_capacity(*rows.allocator(), room)?;
     for row in rows {
         put(&mut copy, row.try_clone()?)?;
     }
@@ -101,16 +101,37 @@ fn place_of(rows: &[Tuple], tuple: &Tuple) -> Result<usize, usize>
     rows.binary_search(tuple)
 }
 
-/// Lets no copy share the tuples.
-fn unshare(rows: &mut Rc<Vec<Tuple>>) -> Result<(), AllocError>
-    ensures { rows.new.value.items ≡ rows.old.value.items }
+/// Puts the tuple at the place of the list. Where memory is refused it comes back.
+fn put_among(rows: &mut Vec<Tuple>, place: usize, tuple: Tuple) -> Result<(), Tuple>
+    requires { place ≤ length rows.old.items }
+    ensures put { OnOk result (rows.new.items ≡ insert rows.old.items place tuple) }
+    ensures back { IfErr result (λ back. back ≡ tuple) }
+    ensures same { OnErr result (rows.new.items ≡ rows.old.items) }
 {
-    if let Some(_) = Rc::get_mut(rows) {
-        return Ok(());
+    match rows.insert(place, tuple) {
+        Ok(()) => Ok(()),
+        Err(refused) => Err(refused.value),
     }
-    let own = copies_of(rows)?;
-    *rows = Rc::new(*own.allocator(), own)?;
-    Ok(())
+}
+
+/// A copy of the tuples with the tuple at the place.
+fn copy_with(rows: &Vec<Tuple>, place: usize, tuple: &Tuple) -> Result<Rc<Vec<Tuple>>, AllocError>
+    requires { place ≤ length rows.now.items }
+    ensures { IfOk result (λ with. with.value.items ≡ insert rows.now.items place tuple.now) }
+{
+    let mut copy = copies_of(rows, rows.len() + 1)?;
+    copy.insert(place, tuple.try_clone()?)?;
+    Ok(Rc::new(*copy.allocator(), copy)?)
+}
+
+/// A copy of the tuples but the one at the place.
+fn copy_without(rows: &Vec<Tuple>, place: usize) -> Result<Rc<Vec<Tuple>>, AllocError>
+    requires { place < length rows.now.items }
+    ensures { IfOk result (λ without. without.value.items ≡ remove rows.now.items place) }
+{
+    let mut copy = copies_of(rows, rows.len())?;
+    let _ = copy.remove(place);
+    Ok(Rc::new(*copy.allocator(), copy)?)
 }
 
 /// Puts the tuple at the place. Where memory is refused it comes back.
@@ -120,16 +141,14 @@ fn put_at(rows: &mut Rc<Vec<Tuple>>, place: usize, tuple: Tuple) -> Result<(), T
     ensures back { IfErr result (λ back. back ≡ tuple) }
     ensures same { OnErr result (rows.new.value.items ≡ rows.old.value.items) }
 {
-    if unshare(rows).is_err() {
-        return Err(tuple);
+    if let Some(own) = Rc::get_mut(rows) {
+        return put_among(own, place, tuple);
     }
-    let Some(own) = Rc::get_mut(rows) else {
+    let Ok(copy) = copy_with(rows, place, &tuple) else {
         return Err(tuple);
     };
-    match own.insert(place, tuple) {
-        Ok(()) => Ok(()),
-        Err(refused) => Err(refused.value),
-    }
+    *rows = copy;
+    Ok(())
 }
 
 /// Takes out the tuple at the place.
@@ -138,11 +157,11 @@ fn take_at(rows: &mut Rc<Vec<Tuple>>, place: usize) -> Result<(), AllocError>
     ensures taken { OnOk result (rows.new.value.items ≡ remove rows.old.value.items place) }
     ensures same { OnErr result (rows.new.value.items ≡ rows.old.value.items) }
 {
-    unshare(rows)?;
-    let Some(own) = Rc::get_mut(rows) else {
-        return Err(AllocError);
-    };
-    let _ = own.remove(place);
+    if let Some(own) = Rc::get_mut(rows) {
+        let _ = own.remove(place);
+        return Ok(());
+    }
+    *rows = copy_without(rows, place)?;
     Ok(())
 }
 
@@ -242,7 +261,7 @@ impl Rel {
         let Rel { heading: _, rows } = self;
         match Rc::try_unwrap(rows) {
             Ok(rows) => Ok(rows),
-            Err(shared) => copies_of(&shared),
+            Err(shared) => copies_of(&shared, shared.len()),
         }
     }
 }

@@ -1,7 +1,7 @@
 //! The types of values.
-ghost use Rattle.std.specs.Prelude.{◌≡◌, ◌↔◌, IfOk, IsOk, IsTrue, OnOk, length};
+ghost use Rattle.std.specs.Prelude.{◌≡◌, ◌↔◌, IfOk, IsOk, IsTrue, OnOk, false, length};
 ghost use Rattle.std.specs.Ordering.{eq_by_cmp, is_eq};
-ghost use Rattle.td_types.specs.Headings.{with_attribute};
+ghost use Rattle.td_types.specs.Headings.{has_attribute, with_attribute};
 ghost use Rattle.td_types.specs.TypeOrder.{heading_cmp};
 ghost use Rattle.td_types.specs.Types.{attrs_cmp, pack, type_cmp};
 ghost use Rattle.td_types.specs.Types as types;
@@ -69,16 +69,13 @@ fn add_attribute(
     name: &Name,
     ty: Result<Ty, AllocError>,
 ) -> Result<Heading, AllocError>
+    requires { has_attribute name.now heading ≡ false }
     ensures found { OnOk result (IsOk ty) }
     ensures more { IfOk result (λ h. IfOk ty (λ t.
         h ≡ with_attribute heading (name.now, heads.type_view t))) }
 {
     let ty = ty?;
-    let name = name.try_clone()?;
-    match heading.with(name, ty) {
-        Ok(more) => Ok(more),
-        Err(_) => Err(AllocError),
-    }
+    heading.add(name.try_clone()?, ty)
 }
 
 /// The type of the user value.

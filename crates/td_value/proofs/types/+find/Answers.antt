@@ -6,12 +6,12 @@ use Rattle.std.specs.List.Sorted.{IsStrictlySortedBy}
 use Rattle.td_types.specs.Types as types
 use Rattle.td_types.specs.Types.{Type', pack}
 use Rattle.td_types.specs.code.Views as heads
-use Rattle.td_types.specs.Headings.{with_attribute}
+use Rattle.td_types.specs.Headings.{has_attribute, with_attribute}
 use Rattle.td_value.specs.Values.{Val, IsTuple, heading_of, tuple_names, type_of}
 use Rattle.td_value.specs.code.ValueCode.{unpack_pack_fields}
 use Rattle.td_value.specs.code.Views.{tuple_view, node_view}
 use Rattle.td_value.proofs.Zips.{zip_names}
-use Rattle.td_value.proofs.HeadingOf.{fields_type-heading, heading_more}
+use Rattle.td_value.proofs.HeadingOf.{fields_type-heading, heading_lacks, heading_more}
 use Rattle.td_value.proofs.types.+find.Goals as goal
 
 ascending : (ns : List (List ℕ)) (vs : List Val) → length ns ≡ length vs → IsTuple (tuple_view ns vs) → IsStrictlySortedBy (slice_cmp nat_cmp) ns
@@ -21,6 +21,12 @@ ascending ns vs e h = subst (IsStrictlySortedBy (slice_cmp nat_cmp)) (ap tuple_n
 from_found : {X Y E : Type 0} (r : Result X E) (t : X → Type') (h : Y) (f : Type' → Y) (x : Type') → IsOk r → IfOk r (λ y. h ≡ f (t y)) → IfOk r (λ y. t y ≡ x) → h ≡ f x
 from_found (Ok y) t h f x ok more same = more ∙ ap f same
 from_found (Err e) t h f x ok more same = absurd (true≢false (sym ok))
+
+pub entries_heading-add_attribute-requires : goal.entries_heading-add_attribute-requires
+entries_heading-add_attribute-requires t c =
+    ap (has_attribute c.index-names-place.result) c.loop-v.invariant.1
+    ∙ heading_lacks c.args.names.now c.args.values.now c.loop-v.place c.index-names-place.result (omega (arith, c.loop-v.invariant.0, c.loop-v-test.true, c.requires.same))
+    c.index-names-place.is (ascending _ _ c.requires.same c.requires.valid)
 
 pub entries_heading-loop-v-preserved : goal.entries_heading-loop-v-preserved
 entries_heading-loop-v-preserved t c =
