@@ -23,7 +23,8 @@ use Rattle.td_algebra.specs.declared.extension.Column.{Column}
 use Rattle.td_algebra.specs.Operators.{Addition, added_attributes, added_values, extended_tuple}
 use Rattle.td_value.proofs.Maps.{has_name-tuple_of}
 use Rattle.td_algebra.proofs.Entries.{has_name-heading, names_of_heading, tuple_of-ascends, value_at-append}
-use Rattle.td_algebra.proofs.Extensions.{added_distinct, additions_attributes, additions_of, column_names, columns_of_additions, extended_distinct, extended_values, has_name-added}
+use Rattle.td_algebra.proofs.Extensions.{added_distinct, additions_attributes, column_names, extended_distinct, extended_values, has_name-added}
+use Rattle.td_algebra.proofs.Fitting.{additions_of, columns_of_additions}
 
 -- tuples of the same names compare as before, whatever comes after them
 fields_before : (t u x y : Tuple) → tuple_names t ≡ tuple_names u → tuple_cmp t u ≡ Less → tuple_cmp (t ++ x) (u ++ y) ≡ Less

@@ -1,10 +1,7 @@
 -- The extended tuples of a relation.
-use Rattle.std.proofs.Common.{◌≡◌, ◌∙◌, ◌+◌, ◌<◌, ◌≤◌, ap, drop, take, sym, refl, subst, arith, ℕ, zero, suc, Bool, true, false, cond, List, [], ◌∷◌, ◌++◌, Some, filter, get_or, length, map, true≢false}
+use Rattle.std.proofs.Common.{◌≡◌, ◌∙◌, ◌+◌, ◌<◌, ◌≤◌, ap, drop, take, sym, refl, subst, arith, ℕ, zero, suc, Bool, true, false, List, [], ◌∷◌, ◌++◌, Some, filter, get_or, length, map, true≢false}
 use Rattle.std.specs.Prelude.{if◌then◌else◌, is_some, not, option_map}
-use Rattle.std.specs.declared.cmp.Ordering.TheVariants.{Less, Greater}
-use Rattle.std.specs.Ordering.{eq_by_cmp, ordering_reverse}
 use Rattle.std.specs.List.Sorted.{IsStrictlySortedBy}
-use Rattle.std.proofs.lemmas.Cmp.{tied_itself}
 use Rattle.std.proofs.lemmas.List.Sorted.{All-permutation}
 use Rattle.std.specs.Cmp.Lexicographic.{same_text}
 use Rattle.std.specs.List.{All, AllByRecursion, Contains, zip}
@@ -18,7 +15,6 @@ use Rattle.td_types.proofs.DistinctNames.{first_of, second_of}
 use Rattle.td_types.proofs.HeadingLaws.{has_attribute-names, same_name-itself, type_at-union}
 use Rattle.td_value.specs.Agreement.{AgreeOn}
 use Rattle.td_value.specs.Values.{IsTuple, IsTupleOf, Tuple, Val, boolean, tuple_cmp, tuple_names, tuple_of, type_of, value_at}
-use Rattle.td_value.specs.ValueOrder.{tuple_order_total}
 use Rattle.td_value.specs.code.Views.{values_of}
 use Rattle.td_value.proofs.Agreement.{entries_of_values, names_ascend}
 use Rattle.td_value.proofs.Maps.{value_at-tuple_of}
@@ -29,6 +25,7 @@ use Rattle.td_algebra.specs.code.Layouts.{AreInRange, Sources, numbered_sources,
 use Rattle.td_algebra.specs.Membership.{ExtensionByMembership, IsExtended, IsIn}
 use Rattle.td_algebra.specs.Operators.{Addition, added_attributes, added_values, extended_relation, extended_tuple, relation_names}
 use Rattle.td_algebra.proofs.Entries.{as_many, distinct_append, heading_distinct, has_name-heading, names_apart, names_of_heading, no_value, no_value_outside, tuple_distinct, tuple_heading, tuple_of-ascends, typed_values, value_at-append}
+use Rattle.td_algebra.proofs.Fitting.{additions_of, columns_of_additions}
 use Rattle.td_algebra.proofs.Lists.{all_kept, contains_map}
 use Rattle.td_algebra.proofs.Relations.{member_headed}
 use Rattle.td_algebra.proofs.Sources.{names_outside, outside_in_range, taken-append, taken_outside}
@@ -278,47 +275,8 @@ pub attributes_of_additions : (ts : List Tuple) (bs : List Addition) → column_
 attributes_of_additions ts [] = refl
 attributes_of_additions ts (b ∷ bs) = ap (λ r. (b.name, b.kind) ∷ r) (attributes_of_additions ts bs)
 
--- ---- columns always are those of some new attributes: each looks its value up by the tuple
+-- ---- the new attributes' values have the types of their columns
 
-look_up : Tuple → List Tuple → List Val → Val
-look_up t [] vs = boolean false
-look_up t (u ∷ us) [] = boolean false
-look_up t (u ∷ us) (v ∷ vs) = cond (eq_by_cmp tuple_cmp t u) v (look_up t us vs)
-
-look_further : (u : Tuple) (us : List Tuple) (v : Val) (vs : List Val) (ts : List Tuple) → AllByRecursion (λ t. tuple_cmp u t ≡ Less) ts
-    → map (λ t. look_up t (u ∷ us) (v ∷ vs)) ts ≡ map (λ t. look_up t us vs) ts
-unfolding look_up
-look_further u us v vs [] h = refl
-look_further u us v vs (t ∷ ts) h =
-    let above : tuple_cmp t u ≡ Greater = tuple_order_total.antisymm t u ∙ ap ordering_reverse h.0 in
-    let further : look_up t (u ∷ us) (v ∷ vs) ≡ look_up t us vs = rw above refl in
-    λ i. further i ∷ look_further u us v vs ts h.1 i
-
-looked_up : (ts : List Tuple) (vs : List Val) → IsStrictlySortedBy tuple_cmp ts → length vs ≡ length ts → map (λ t. look_up t ts vs) ts ≡ vs
-unfolding look_up IsStrictlySortedBy
-looked_up [] [] h e = refl
-looked_up [] (v ∷ vs) h e = absurd (omega (arith, e))
-looked_up (t ∷ ts) [] h e = absurd (omega (arith, e))
-looked_up (t ∷ ts) (v ∷ vs) h e =
-    let here : look_up t (t ∷ ts) (v ∷ vs) ≡ v = rw (tied_itself tuple_order_total t) refl in
-    let rest = look_further t ts v vs ts h.0 ∙ looked_up ts vs h.1 (omega (arith, e)) in
-    λ i. here i ∷ rest i
-
--- the new attributes of columns
-pub additions_of : List NamedColumn → List Tuple → List Addition
-additions_of [] ts = []
-additions_of (c ∷ cs) ts = record { name = c.0; kind = c.1; value = λ t. look_up t ts c.2 } ∷ additions_of cs ts
-
-pub columns_of_additions : (cs : List NamedColumn) (ts : List Tuple) → IsStrictlySortedBy tuple_cmp ts → AllByRecursion (λ c. IsColumn c.1 c.2 ts) cs
-    → AreColumnsOf cs ts (additions_of cs ts)
-unfolding additions_of
-columns_of_additions [] ts up h = refl
-columns_of_additions (c ∷ cs) ts up h =
-    let values = looked_up ts c.2 up h.0.0 in
-    let rest = columns_of_additions cs ts up h.1 in
-    λ i. (c.0, c.1, sym values i) ∷ rest i
-
--- and their values have the types of the columns
 pub typed_from : (cs : List NamedColumn) (ts : List Tuple) (bs : List Addition) (i : ℕ) (t : Tuple) → AreColumnsOf cs ts bs → AllByRecursion (λ c. IsColumn c.1 c.2 ts) cs → i < length ts
     → AllByRecursion (λ (a : Addition). type_of (a.value (get_or ts i t)) ≡ a.kind) bs
 typed_from [] ts [] i t e h l = tt

@@ -3,6 +3,7 @@ pub mod Composed
 pub mod Distinct
 pub mod Entries
 pub mod Extensions
+pub mod Fitting
 pub mod JoinEqualities
 pub mod JoinMembers
 pub mod Joined

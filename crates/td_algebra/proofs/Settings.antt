@@ -20,7 +20,8 @@ use Rattle.td_algebra.specs.code.Layouts.{Sources, sources_with}
 use Rattle.td_algebra.specs.Membership.{IsIn, IsSet, SettingByMembership, other_names, set_heading_of}
 use Rattle.td_algebra.specs.Operators.{Addition, added_attributes, added_values, set_relation, set_tuple}
 use Rattle.td_algebra.proofs.Entries.{distinct_append, has_value, no_value, no_value_outside, tuple_distinct, tuple_heading, tuple_of-ascends, typed_values, value_at-append}
-use Rattle.td_algebra.proofs.Extensions.{IsTupleOf-extended, added_distinct, additions_attributes, additions_of, all_distinct, columns_of_additions, entries_outside, given_values, has_name-added, row_with, rows_beside, taken_beside, typed_from, values_given}
+use Rattle.td_algebra.proofs.Extensions.{IsTupleOf-extended, added_distinct, additions_attributes, all_distinct, entries_outside, given_values, has_name-added, row_with, rows_beside, taken_beside, typed_from, values_given}
+use Rattle.td_algebra.proofs.Fitting.{additions_of, columns_of_additions}
 use Rattle.td_algebra.proofs.Lists.{contains_first, contains_later, contains_map}
 use Rattle.td_algebra.proofs.Relations.{member_headed}
 use Rattle.td_algebra.proofs.Sources.{has_attribute-outside}

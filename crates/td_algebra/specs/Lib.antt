@@ -1,5 +1,6 @@
 pub mod Columns
 pub mod Equalities
+pub mod Fitting
 pub mod Lookups
 pub mod Membership
 pub mod Operators
