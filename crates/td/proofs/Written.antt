@@ -2,7 +2,8 @@
 use Rattle.std.proofs.Common.{◌≡◌, ◌∙◌, ℕ, Bool, List, [], Option, Some, None, Result, Ok, Err, ap, refl, sym, subst, append-nil, arith, true≢false}
 use Rattle.std.specs.Prelude.{IfErr, IfOk, IsFalse, IsOk, IsTrue, take, nat_lt, if◌then◌else◌, ◌&&◌, ◌++◌, true, false}
 use Rattle.std.specs.Io.KnownBytes.{Appends}
-use Rattle.td.specs.Sessions.{HasAnswered, HasBegun, HasBegunCut, HasDumpedCut, OfSession, status_of}
+use Rattle.td.specs.Sessions.{HasAnswered, HasBegun, HasBegunCut, HasBegunTo, HasDumpedCut, IsUnderWay, OfSession, status_of}
+use Rattle.td.specs.declared.line.Mode.{Mode}
 use Rattle.td.specs.declared.line.Mode.TheVariants.{Dump, Run}
 use Rattle.td_catalog.specs.Dumps.{dump_text}
 use Rattle.td_engine.proofs.law_lemmas.Runs.{runs_front}
@@ -62,9 +63,9 @@ module _ (stop : Bool) (old new : State) (told taken : Option (List ℕ)) (legal
       }
 
   -- a front of it was run
-  ran_front : (script : List ℕ) (done : ℕ) → HasRun (run_of stop (standing old told) script) done (standing new taken)
+  abbrev begun : (script : List ℕ) (done : ℕ) → HasRun (run_of stop (standing old told) script) done (standing new taken)
       → HasBegun Run (run_of stop (standing old told) script) done taken
-  ran_front script done has =
+  begun script done has =
       record {
         progress = has.progress;
         runs = has.runs;
@@ -72,6 +73,14 @@ module _ (stop : Bool) (old new : State) (told taken : Option (List ℕ)) (legal
         written = has.stands.written;
         legal = subst IsLegalState has.stands.state_is legal;
       }
+
+  ran_front : (script : List ℕ) (done : ℕ) → HasRun (run_of stop (standing old told) script) done (standing new taken)
+      → HasBegunTo Run (run_of stop (standing old told) script) done (standing new taken)
+  ran_front script done has = record { has_begun = begun script done has; state_is = has.stands.state_is }
+
+  ran_on : (script : List ℕ) (done : ℕ) → IsOngoing (run_of stop (standing old told) script) done (standing new taken)
+      → IsUnderWay Run (run_of stop (standing old told) script) done taken
+  ran_on script done is = record { has_begun = begun script done is.has_run; goes_on = is.goes_on }
 
   module _ (before after : Option (List ℕ)) where
     pub run_answers : (r : Result Report RunFault)
@@ -84,27 +93,27 @@ module _ (stop : Bool) (old new : State) (told taken : Option (List ℕ)) (legal
 
     pub run_memory : (fault : RunFault)
         → IfMemory (λ done. OfFront done before after (λ script. HasRun (run_of stop (standing old told) script) done (standing new taken))) fault
-        → IfMemory (λ done. OfFront done before after (λ script. HasBegun Run (run_of stop (standing old told) script) done taken)) fault
+        → IfMemory (λ done. OfFront done before after (λ script. HasBegunTo Run (run_of stop (standing old told) script) done (standing new taken))) fault
     run_memory =
         memory_map (λ done. OfFront done before after (λ script. HasRun (run_of stop (standing old told) script) done (standing new taken)))
-        (λ done. OfFront done before after (λ script. HasBegun Run (run_of stop (standing old told) script) done taken))
+        (λ done. OfFront done before after (λ script. HasBegunTo Run (run_of stop (standing old told) script) done (standing new taken)))
         (λ done h. (h.0, h.1, h.2, h.3, λ rest may. ran_front (h.0 ++ rest) done (h.4 rest may)))
 
     pub run_read : (P : Type 0) (fault : RunFault)
         → IfRead (λ done. P × OfBroken done before after (λ script. IsOngoing (run_of stop (standing old told) script) done (standing new taken))) fault
-        → IfRead (λ done. P × OfBroken done before after (λ script. HasBegun Run (run_of stop (standing old told) script) done taken)) fault
+        → IfRead (λ done. P × OfBroken done before after (λ script. IsUnderWay Run (run_of stop (standing old told) script) done taken)) fault
     run_read P =
         read_map (λ done. P × OfBroken done before after (λ script. IsOngoing (run_of stop (standing old told) script) done (standing new taken)))
-        (λ done. P × OfBroken done before after (λ script. HasBegun Run (run_of stop (standing old told) script) done taken))
-        (λ done h. let w = h.1 in (h.0, (w.0, w.1, w.2, λ rest may. ran_front (w.0 ++ rest) done (w.3 rest may).has_run, w.4)))
+        (λ done. P × OfBroken done before after (λ script. IsUnderWay Run (run_of stop (standing old told) script) done taken))
+        (λ done h. let w = h.1 in (h.0, (w.0, w.1, w.2, λ rest may. ran_on (w.0 ++ rest) done (w.3 rest may), w.4)))
 
     pub run_limit : (fault : RunFault)
         → IfReadLimit (λ done. OfTooMuch script_limit done before after (λ script. IsOngoing (run_of stop (standing old told) script) done (standing new taken))) fault
-        → IfReadLimit (λ done. OfTooMuch script_limit done before after (λ script. HasBegun Run (run_of stop (standing old told) script) done taken)) fault
+        → IfReadLimit (λ done. OfTooMuch script_limit done before after (λ script. IsUnderWay Run (run_of stop (standing old told) script) done taken)) fault
     run_limit =
         limit_map (λ done. OfTooMuch script_limit done before after (λ script. IsOngoing (run_of stop (standing old told) script) done (standing new taken)))
-        (λ done. OfTooMuch script_limit done before after (λ script. HasBegun Run (run_of stop (standing old told) script) done taken))
-        (λ done h. (h.0, h.1, h.2, λ rest may. ran_front (h.0 ++ rest) done (h.3 rest may).has_run, h.4))
+        (λ done. OfTooMuch script_limit done before after (λ script. IsUnderWay Run (run_of stop (standing old told) script) done taken))
+        (λ done h. (h.0, h.1, h.2, λ rest may. ran_on (h.0 ++ rest) done (h.3 rest may), h.4))
 
     pub run_write : (P : Type 0) (fault : RunFault)
         → IfWrite (λ done. P × OfFront done before after (λ script. HasRunCut (run_of stop (standing old told) script) done (standing new taken))) fault
@@ -147,14 +156,18 @@ module _ (stop : Bool) (old new : State) (told nowhere : Option (List ℕ)) (leg
 
   -- all was run, and no dump was made
   undumped : (done : ℕ) (taken : Option (List ℕ)) → done ≡ report.statements → taken ≡ told
-      → HasBegun Dump (run_of stop (standing old told) script) done taken
+      → HasBegunTo Dump (run_of stop (standing old told) script) done (standing new taken)
   undumped done taken is kept =
       record {
-        progress = left.progress;
-        runs = runs_front stop (progress_at_first old) (statements 0 script) left.progress done left.runs (let same = all_done done is in omega (arith, same));
-        each_run = all_done done is;
-        written = appends_nothing told taken kept;
-        legal = legal_end;
+        has_begun =
+            record {
+              progress = left.progress;
+              runs = runs_front stop (progress_at_first old) (statements 0 script) left.progress done left.runs (let same = all_done done is in omega (arith, same));
+              each_run = all_done done is;
+              written = appends_nothing told taken kept;
+              legal = legal_end;
+            };
+        state_is = left.stands.state_is;
       }
 
   -- all was run, and the dump is cut
@@ -171,16 +184,23 @@ module _ (stop : Bool) (old new : State) (told nowhere : Option (List ℕ)) (leg
       }
 
 -- a front of the script was run, and nothing is written
-dump_front : (stop : Bool) (old new : State) (told : Option (List ℕ)) (script : List ℕ) (done : ℕ) → IsLegalState new
-    → HasRun (run_of stop (standing old None) script) done (standing new None) → HasBegun Dump (run_of stop (standing old told) script) done told
-dump_front stop old new told script done legal has =
-    record {
-      progress = has.progress;
-      runs = has.runs;
-      each_run = has.each_run;
-      written = appends_nothing told told refl;
-      legal = subst IsLegalState has.stands.state_is legal;
-    }
+module _ (stop : Bool) (old new : State) (told : Option (List ℕ)) (script : List ℕ) (done : ℕ) (legal : IsLegalState new) where
+  abbrev undumped_front : HasRun (run_of stop (standing old None) script) done (standing new None) → HasBegun Dump (run_of stop (standing old told) script) done told
+  undumped_front has =
+      record {
+        progress = has.progress;
+        runs = has.runs;
+        each_run = has.each_run;
+        written = appends_nothing told told refl;
+        legal = subst IsLegalState has.stands.state_is legal;
+      }
+
+  dump_front : HasRun (run_of stop (standing old None) script) done (standing new None)
+      → HasBegunTo Dump (run_of stop (standing old told) script) done (standing new told)
+  dump_front has = record { has_begun = undumped_front has; state_is = has.stands.state_is }
+
+  dump_on : IsOngoing (run_of stop (standing old None) script) done (standing new None) → IsUnderWay Dump (run_of stop (standing old told) script) done told
+  dump_on is = record { has_begun = undumped_front is.has_run; goes_on = is.goes_on }
 
 -- what a run to the end says of its script, where all of it was run
 of_front : (stop : Bool) (report : Report) (before after : Option (List ℕ)) (P Q : List ℕ → Type 0) (done : ℕ) → done ≡ report.statements
@@ -203,12 +223,12 @@ module _ (stop : Bool) (old new : State) (told taken before after : Option (List
       (sym h.0) (of_session stop report before after _ _ (λ script left. dumped stop old new told None legal script report left taken h.1) ran)) r
 
   pub dump_memory : IfErr r (IfMemory (λ done. (done ≡ report.statements) × (taken ≡ told)))
-      → IfErr r (IfMemory (λ done. OfFront done before after (λ script. HasBegun Dump (run_of stop (standing old told) script) done taken)))
+      → IfErr r (IfMemory (λ done. OfFront done before after (λ script. HasBegunTo Dump (run_of stop (standing old told) script) done (standing new taken))))
   dump_memory =
       err_map (IfMemory (λ done. (done ≡ report.statements) × (taken ≡ told)))
-      (IfMemory (λ done. OfFront done before after (λ script. HasBegun Dump (run_of stop (standing old told) script) done taken)))
+      (IfMemory (λ done. OfFront done before after (λ script. HasBegunTo Dump (run_of stop (standing old told) script) done (standing new taken))))
       (memory_map (λ done. (done ≡ report.statements) × (taken ≡ told))
-      (λ done. OfFront done before after (λ script. HasBegun Dump (run_of stop (standing old told) script) done taken))
+      (λ done. OfFront done before after (λ script. HasBegunTo Dump (run_of stop (standing old told) script) done (standing new taken)))
       (λ done h. of_front stop report before after _ _ done h.0 (λ script left. undumped stop old new told None legal script report left done taken h.0 h.1) ran)) r
 
   pub dump_write : (broken : Type 0)
@@ -253,24 +273,34 @@ no_limit P = err_map (IfReadLimit (λ done. ⊥)) (IfReadLimit P) (limit_map (λ
 
 pub fault_memory : (stop : Bool) (old new : State) (told before after : Option (List ℕ)) → IsLegalState new → (fault : RunFault)
     → IfMemory (λ done. OfFront done before after (λ script. HasRun (run_of stop (standing old None) script) done (standing new None))) fault
-    → IfMemory (λ done. OfFront done before after (λ script. HasBegun Dump (run_of stop (standing old told) script) done told)) fault
+    → IfMemory (λ done. OfFront done before after (λ script. HasBegunTo Dump (run_of stop (standing old told) script) done (standing new told))) fault
 fault_memory stop old new told before after legal =
     memory_map (λ done. OfFront done before after (λ script. HasRun (run_of stop (standing old None) script) done (standing new None)))
-    (λ done. OfFront done before after (λ script. HasBegun Dump (run_of stop (standing old told) script) done told))
+    (λ done. OfFront done before after (λ script. HasBegunTo Dump (run_of stop (standing old told) script) done (standing new told)))
     (λ done h. (h.0, h.1, h.2, h.3, λ rest may. dump_front stop old new told (h.0 ++ rest) done legal (h.4 rest may)))
 
 pub fault_read : (stop : Bool) (old new : State) (told before after : Option (List ℕ)) → IsLegalState new → (P : Type 0) (fault : RunFault)
     → IfRead (λ done. P × OfBroken done before after (λ script. IsOngoing (run_of stop (standing old None) script) done (standing new None))) fault
-    → IfRead (λ done. P × OfBroken done before after (λ script. HasBegun Dump (run_of stop (standing old told) script) done told)) fault
+    → IfRead (λ done. P × OfBroken done before after (λ script. IsUnderWay Dump (run_of stop (standing old told) script) done told)) fault
 fault_read stop old new told before after legal P =
     read_map (λ done. P × OfBroken done before after (λ script. IsOngoing (run_of stop (standing old None) script) done (standing new None)))
-    (λ done. P × OfBroken done before after (λ script. HasBegun Dump (run_of stop (standing old told) script) done told))
-    (λ done h. let w = h.1 in (h.0, (w.0, w.1, w.2, λ rest may. dump_front stop old new told (w.0 ++ rest) done legal (w.3 rest may).has_run, w.4)))
+    (λ done. P × OfBroken done before after (λ script. IsUnderWay Dump (run_of stop (standing old told) script) done told))
+    (λ done h. let w = h.1 in (h.0, (w.0, w.1, w.2, λ rest may. dump_on stop old new told (w.0 ++ rest) done legal (w.3 rest may), w.4)))
 
 pub fault_limit : (stop : Bool) (old new : State) (told before after : Option (List ℕ)) → IsLegalState new → (fault : RunFault)
     → IfReadLimit (λ done. OfTooMuch script_limit done before after (λ script. IsOngoing (run_of stop (standing old None) script) done (standing new None))) fault
-    → IfReadLimit (λ done. OfTooMuch script_limit done before after (λ script. HasBegun Dump (run_of stop (standing old told) script) done told)) fault
+    → IfReadLimit (λ done. OfTooMuch script_limit done before after (λ script. IsUnderWay Dump (run_of stop (standing old told) script) done told)) fault
 fault_limit stop old new told before after legal =
     limit_map (λ done. OfTooMuch script_limit done before after (λ script. IsOngoing (run_of stop (standing old None) script) done (standing new None)))
-    (λ done. OfTooMuch script_limit done before after (λ script. HasBegun Dump (run_of stop (standing old told) script) done told))
-    (λ done h. (h.0, h.1, h.2, λ rest may. dump_front stop old new told (h.0 ++ rest) done legal (h.3 rest may).has_run, h.4))
+    (λ done. OfTooMuch script_limit done before after (λ script. IsUnderWay Dump (run_of stop (standing old told) script) done told))
+    (λ done h. (h.0, h.1, h.2, λ rest may. dump_on stop old new told (h.0 ++ rest) done legal (h.3 rest may), h.4))
+
+-- ---- where the engine is not seen any more
+
+pub begun_alone : (mode : Mode) (stop : Bool) (old new : State) (told taken before after : Option (List ℕ)) (fault : RunFault)
+    → IfMemory (λ done. OfFront done before after (λ script. HasBegunTo mode (run_of stop (standing old told) script) done (standing new taken))) fault
+    → IfMemory (λ done. OfFront done before after (λ script. HasBegun mode (run_of stop (standing old told) script) done taken)) fault
+begun_alone mode stop old new told taken before after =
+    memory_map (λ done. OfFront done before after (λ script. HasBegunTo mode (run_of stop (standing old told) script) done (standing new taken)))
+    (λ done. OfFront done before after (λ script. HasBegun mode (run_of stop (standing old told) script) done taken))
+    (λ done h. (h.0, h.1, h.2, h.3, λ rest may. (h.4 rest may).has_begun))

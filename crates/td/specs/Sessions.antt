@@ -1,13 +1,13 @@
 -- What a session writes and answers (this project's own).
-use Rattle.std.specs.Prelude.{◌≡◌, ℕ, ◌≤◌, ◌&&◌, Bool, List, [], Option, None, Some, nat_lt, take, if◌then◌else◌, ⊤}
+use Rattle.std.specs.Prelude.{◌≡◌, ℕ, ◌≤◌, ◌&&◌, Bool, List, [], Option, None, Some, false, nat_lt, take, if◌then◌else◌, ⊤}
 use Rattle.std.specs.Io.KnownBytes.{Appends}
 use Rattle.td.specs.declared.line.Mode.{Mode}
 use Rattle.td.specs.declared.line.Mode.TheVariants.{Run, Dump}
 use Rattle.td_catalog.specs.Dumps.{dump_text}
-use Rattle.td_engine.specs.Machine.{Progress, State}
+use Rattle.td_engine.specs.Machine.{Progress, State, has_stopped}
 use Rattle.td_engine.specs.Legality.{IsLegalState}
 use Rattle.td_engine.specs.Scripts.{OfScript, script_limit}
-use Rattle.td_engine.specs.Standing.{HasRunCut, RunsTo, standing}
+use Rattle.td_engine.specs.Standing.{HasRunCut, RunsTo, Standing, standing}
 use Rattle.td_engine.specs.Standing as runs
 use Rattle.td_engine.specs.Told.{AppendsIfTold}
 use Rattle.td_engine.specs.declared.run.RunFault.{RunFault}
@@ -52,6 +52,16 @@ pub record HasBegun (mode : Mode) (run : runs.Run) (done : ℕ) (taken : Option 
   pub each_run : progress.statements ≡ done
   pub written : Appends run.old.taken taken (output_so_far mode progress)
   pub legal : IsLegalState progress.state
+
+-- as in `HasBegun`, where this stands then
+pub record HasBegunTo (mode : Mode) (run : runs.Run) (done : ℕ) (new : Standing) : Type 0 where
+  pub has_begun : HasBegun mode run done new.taken
+  pub state_is : new.state ≡ has_begun.progress.state
+
+-- as in `HasBegun`, and no refusal ended the run there
+pub record IsUnderWay (mode : Mode) (run : runs.Run) (done : ℕ) (taken : Option (List ℕ)) : Type 0 where
+  pub has_begun : HasBegun mode run done taken
+  pub goes_on : has_stopped run.stop has_begun.progress ≡ false
 
 -- the run was run to its end, `done` statements, and the dump is cut
 pub record HasDumpedCut (run : runs.Run) (done : ℕ) (taken : Option (List ℕ)) : Type 0 where

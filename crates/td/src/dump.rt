@@ -2,7 +2,8 @@
 ghost use Rattle.std.specs.Prelude.{◌≡◌, ℕ, IfErr, IfOk, IsFalse, IsOk, IsTrue, OnOk, None};
 ghost use Rattle.std.specs.Prelude.{false, take};
 ghost use Rattle.std.specs.Io.KnownBytes.{Appends};
-ghost use Rattle.td.specs.Sessions.{HasAnswered, HasBegun, HasBegunCut, OfSession, status_of};
+ghost use Rattle.td.specs.Sessions.{HasAnswered, HasBegunCut, HasBegunTo, IsUnderWay};
+ghost use Rattle.td.specs.Sessions.{OfSession, status_of};
 ghost use Rattle.td.specs.declared.line.Mode.TheVariants.{Dump};
 ghost use Rattle.td_catalog.specs.Dumps.{dump_text};
 ghost use Rattle.td_engine.specs.Faults.{IfMemory, IfNotMemory, IfRead, IfReadLimit, IfWrite};
@@ -77,18 +78,18 @@ pub(crate) fn dump<B: Body, R: Source, W: Sink>(
         (R.left reader.old) (R.left reader.new) (λ script. HasAnswered Dump
         (run_of stop (standing engine.old (W.taken writer.old)) script)
         (status_of report.refused) (W.taken writer.new))) }
-    ensures whole { OnOk result (IsFalse (R.is_broken reader.new)
+    ensures whole { OnOk result (StaysWhole (R.is_broken reader.old) (R.is_broken reader.new)
         × StaysWhole (W.is_broken writer.old) (W.is_broken writer.new)) }
     ensures memory { IfErr result (IfMemory (λ done.
-        OfFront done (R.left reader.old) (R.left reader.new) (λ script. HasBegun Dump
+        OfFront done (R.left reader.old) (R.left reader.new) (λ script. HasBegunTo Dump
         (run_of stop (standing engine.old (W.taken writer.old)) script) done
-        (W.taken writer.new)))) }
+        (standing engine.new (W.taken writer.new))))) }
     ensures read { IfErr result (IfRead (λ done. IsTrue (R.is_broken reader.new)
-        × OfBroken done (R.left reader.old) (R.left reader.new) (λ script. HasBegun Dump
+        × OfBroken done (R.left reader.old) (R.left reader.new) (λ script. IsUnderWay Dump
         (run_of stop (standing engine.old (W.taken writer.old)) script) done
         (W.taken writer.new)))) }
     ensures too_long { IfErr result (IfReadLimit (λ done.
-        OfTooMuch script_limit done (R.left reader.old) (R.left reader.new) (λ script. HasBegun Dump
+        OfTooMuch script_limit done (R.left reader.old) (R.left reader.new) (λ script. IsUnderWay Dump
         (run_of stop (standing engine.old (W.taken writer.old)) script) done
         (W.taken writer.new)))) }
     ensures write { IfErr result (IfWrite (λ done. IsTrue (W.is_broken writer.new)

@@ -1,8 +1,8 @@
 //! Sessions: a script on an engine of its own.
 ghost use Rattle.std.specs.Prelude.{◌≡◌, None, IfErr, IfNone, IfOk, IfSome, IsFalse, IsOk, IsTrue};
 ghost use Rattle.std.specs.Prelude.{OnOk};
-ghost use Rattle.td.specs.Sessions.{HasAnswered, HasBegun, HasBegunCut, IsStatus, OfSession};
-ghost use Rattle.td.specs.Sessions.{UnlessMemory, status_of};
+ghost use Rattle.td.specs.Sessions.{HasAnswered, HasBegun, HasBegunCut, HasBegunTo, IsStatus};
+ghost use Rattle.td.specs.Sessions.{IsUnderWay, OfSession, UnlessMemory, status_of};
 ghost use Rattle.td_engine.specs.Faults.{IfMemory, IfNotMemory, IfRead, IfReadLimit, IfWrite};
 ghost use Rattle.td_engine.specs.Machine.{empty_state};
 ghost use Rattle.td_engine.specs.LegalityLaws.{IsLegalThroughout};
@@ -53,18 +53,18 @@ fn run_script<B: Body, R: Source, W: Sink>(
         (R.left reader.old) (R.left reader.new) (λ script. HasAnswered mode
         (run_of stop (standing engine.old (W.taken writer.old)) script)
         (status_of report.refused) (W.taken writer.new))) }
-    ensures whole { OnOk result (IsFalse (R.is_broken reader.new)
+    ensures whole { OnOk result (StaysWhole (R.is_broken reader.old) (R.is_broken reader.new)
         × StaysWhole (W.is_broken writer.old) (W.is_broken writer.new)) }
     ensures memory { IfErr result (IfMemory (λ done.
-        OfFront done (R.left reader.old) (R.left reader.new) (λ script. HasBegun mode
+        OfFront done (R.left reader.old) (R.left reader.new) (λ script. HasBegunTo mode
         (run_of stop (standing engine.old (W.taken writer.old)) script) done
-        (W.taken writer.new)))) }
+        (standing engine.new (W.taken writer.new))))) }
     ensures read { IfErr result (IfRead (λ done. IsTrue (R.is_broken reader.new)
-        × OfBroken done (R.left reader.old) (R.left reader.new) (λ script. HasBegun mode
+        × OfBroken done (R.left reader.old) (R.left reader.new) (λ script. IsUnderWay mode
         (run_of stop (standing engine.old (W.taken writer.old)) script) done
         (W.taken writer.new)))) }
     ensures too_long { IfErr result (IfReadLimit (λ done.
-        OfTooMuch script_limit done (R.left reader.old) (R.left reader.new) (λ script. HasBegun mode
+        OfTooMuch script_limit done (R.left reader.old) (R.left reader.new) (λ script. IsUnderWay mode
         (run_of stop (standing engine.old (W.taken writer.old)) script) done
         (W.taken writer.new)))) }
     ensures write { IfErr result (IfWrite (λ done. IsTrue (W.is_broken writer.new)
@@ -94,18 +94,18 @@ pub(crate) fn session_on<B: Body, R: Source, W: Sink>(
         (R.left reader.old) (R.left reader.new) (λ script. HasAnswered mode
         (run_of stop (standing empty_state (W.taken writer.old)) script)
         result.status (W.taken writer.new))) }
-    ensures whole { IfNone result.fault (IsFalse (R.is_broken reader.new)
-        × StaysWhole (W.is_broken writer.old) (W.is_broken writer.new)) }
+    ensures whole { IfNone result.fault (StaysWhole (R.is_broken reader.old)
+        (R.is_broken reader.new) × StaysWhole (W.is_broken writer.old) (W.is_broken writer.new)) }
     ensures memory { IfSome result.fault (IfMemory (λ done.
         OfFront done (R.left reader.old) (R.left reader.new) (λ script. HasBegun mode
         (run_of stop (standing empty_state (W.taken writer.old)) script) done
         (W.taken writer.new)))) }
     ensures read { IfSome result.fault (IfRead (λ done. IsTrue (R.is_broken reader.new)
-        × OfBroken done (R.left reader.old) (R.left reader.new) (λ script. HasBegun mode
+        × OfBroken done (R.left reader.old) (R.left reader.new) (λ script. IsUnderWay mode
         (run_of stop (standing empty_state (W.taken writer.old)) script) done
         (W.taken writer.new)))) }
     ensures too_long { IfSome result.fault (IfReadLimit (λ done.
-        OfTooMuch script_limit done (R.left reader.old) (R.left reader.new) (λ script. HasBegun mode
+        OfTooMuch script_limit done (R.left reader.old) (R.left reader.new) (λ script. IsUnderWay mode
         (run_of stop (standing empty_state (W.taken writer.old)) script) done
         (W.taken writer.new)))) }
     ensures write { IfSome result.fault (IfWrite (λ done. IsTrue (W.is_broken writer.new)
@@ -149,18 +149,18 @@ pub fn session<R: Source, W: Sink>(
         (R.left reader.old) (R.left reader.new) (λ script. HasAnswered mode
         (run_of stop (standing empty_state (W.taken writer.old)) script)
         result.status (W.taken writer.new))) }
-    ensures whole { IfNone result.fault (IsFalse (R.is_broken reader.new)
-        × StaysWhole (W.is_broken writer.old) (W.is_broken writer.new)) }
+    ensures whole { IfNone result.fault (StaysWhole (R.is_broken reader.old)
+        (R.is_broken reader.new) × StaysWhole (W.is_broken writer.old) (W.is_broken writer.new)) }
     ensures memory { IfSome result.fault (IfMemory (λ done.
         OfFront done (R.left reader.old) (R.left reader.new) (λ script. HasBegun mode
         (run_of stop (standing empty_state (W.taken writer.old)) script) done
         (W.taken writer.new)))) }
     ensures read { IfSome result.fault (IfRead (λ done. IsTrue (R.is_broken reader.new)
-        × OfBroken done (R.left reader.old) (R.left reader.new) (λ script. HasBegun mode
+        × OfBroken done (R.left reader.old) (R.left reader.new) (λ script. IsUnderWay mode
         (run_of stop (standing empty_state (W.taken writer.old)) script) done
         (W.taken writer.new)))) }
     ensures too_long { IfSome result.fault (IfReadLimit (λ done.
-        OfTooMuch script_limit done (R.left reader.old) (R.left reader.new) (λ script. HasBegun mode
+        OfTooMuch script_limit done (R.left reader.old) (R.left reader.new) (λ script. IsUnderWay mode
         (run_of stop (standing empty_state (W.taken writer.old)) script) done
         (W.taken writer.new)))) }
     ensures write { IfSome result.fault (IfWrite (λ done. IsTrue (W.is_broken writer.new)

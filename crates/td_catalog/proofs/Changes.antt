@@ -7,6 +7,7 @@ use Rattle.indexmap.specs.IndexMap.{IndexMap, insert_entry}
 use Rattle.indexmap.specs.Layout.{set_value_at}
 use Rattle.td_catalog.specs.code.CatalogViews.{AreEntries, IsBodyOf, IsCatalog, IsEntry, Rows, base_view, constraint_view, database_view, entry_keys, virtual_view}
 use Rattle.td_catalog.specs.Database.{BaseRelvar, NamedConstraint, VirtualRelvar, base_relvar, base_named, database_scope, knows_constraint, knows_relvar, with_base, with_body, with_constraint, with_virtual}
+use Rattle.td_catalog.specs.WrittenDefinitions.{ConstraintIsWritten}
 use Rattle.td_catalog.specs.TypedDatabases.{AreTyped, IsConstrained, IsTyped, IsTypedBase, IsTypedConstraint, IsTypedVirtual}
 use Rattle.td_catalog.specs.declared.entry.BaseEntry.{BaseEntry}
 use Rattle.td_catalog.specs.declared.entry.ConstraintEntry.{ConstraintEntry}
@@ -16,6 +17,7 @@ use Rattle.td_catalog.proofs.Lists.{all_push, neither}
 use Rattle.td_catalog.proofs.Places.{IsChanged, changed, other_name, with_entry_body}
 use Rattle.td_catalog.proofs.Rows.{has_append, known, rows_with, view_with}
 use Rattle.td_tree.specs.Names.{IsName}
+use Rattle.td_tree.specs.WrittenTrees.{IsWritten}
 use Rattle.td_types.specs.TypeLists.{AreDeclared, AreKnown, DeclaredType}
 use Rattle.td_types.specs.Types.{pack, same_name}
 use Rattle.td_value.specs.Values.{IsRelation, Relation}
@@ -45,11 +47,11 @@ module _ {B : Type 0} (relation : B → Relation) (keys : B → List (List (List
       (record { entries = tt; is_typed = typed_empty }))))
 
   pub catalog_with_type : (rows : Rows B) (d : DeclaredType) (after : List DeclaredType)
-      → IsCatalog relation keys rows → after ≡ rows.types ++ (d ∷ []) → AreDeclared after → IsConstrained rows.types d
+      → IsCatalog relation keys rows → after ≡ rows.types ++ (d ∷ []) → AreDeclared after → IsConstrained rows.types d → ConstraintIsWritten d
       → IsCatalog relation keys (with_types after rows)
-  catalog_with_type rows d after h e all constrained =
+  catalog_with_type rows d after h e all constrained written =
       subst (λ ts. IsCatalog relation keys (with_types ts rows)) (sym e)
-      (record { entries = h.entries; is_typed = typed_with_type (database_view relation rows) d h.is_typed (subst AreDeclared e all) constrained })
+      (record { entries = h.entries; is_typed = typed_with_type (database_view relation rows) d h.is_typed (subst AreDeclared e all) constrained written })
 
   -- the entry that a name finds is as its body
   pub as_body : (name : List ℕ) (rows : List (List ℕ × BaseEntry B)) → AreEntries relation keys rows → IfSome (lookup (same_name name) rows) (IsEntry relation keys)
@@ -145,11 +147,11 @@ module _ {B : Type 0} (relation : B → Relation) (keys : B → List (List (List
         ∙ ap (λ rs. map virtual_view rs ++ (virtual_view (name, entry) ∷ [])) (sym of))
 
     pub catalog_with_virtual : IsCatalog relation keys rows → IsName name → IsTypedVirtual (database_scope (database_view relation rows)) (virtual_view (name, entry))
-        → IsCatalog relation keys (with_virtual_rows (insert_entry same_name m.entries name entry) rows)
-    catalog_with_virtual h named new =
+        → IsWritten entry.tree → IsCatalog relation keys (with_virtual_rows (insert_entry same_name m.entries name entry) rows)
+    catalog_with_virtual h named new written =
         record {
           entries = h.entries;
-          is_typed = subst IsTyped (sym view_with_virtual) (typed_with_virtual (database_view relation rows) (virtual_view (name, entry)) h.is_typed named free new);
+          is_typed = subst IsTyped (sym view_with_virtual) (typed_with_virtual (database_view relation rows) (virtual_view (name, entry)) h.is_typed named free new written);
         }
 
   -- ---- one more constraint

@@ -6,6 +6,7 @@ use Rattle.std.proofs.lemmas.List.{append_assoc, append-nil, map-append}
 use Rattle.td_catalog.specs.Database.{BaseRelvar, Database, NamedConstraint, VirtualRelvar, base_among, base_named, base_relvar, constraint_names, database_scope, empty_database, known_base, known_virtual, knows_constraint, knows_relvar, relvar_names, with_base, with_body, with_constraint, with_declared, with_relation, with_virtual, with_virtuals}
 use Rattle.td_catalog.specs.TypedDatabases.{AreTyped, IsConstrained, IsTyped, IsTypedBase, IsTypedConstraint, IsTypedVirtual}
 use Rattle.td_catalog.specs.TypedDatabaseLaws.{BaseRelvarsKeepTyped, BodiesKeepTyped, ConstraintsKeepTyped, TypesKeepTyped, VirtualRelvarsKeepTyped}
+use Rattle.td_catalog.specs.WrittenDefinitions.{ConstraintIsWritten}
 use Rattle.td_catalog.proofs.KnownRelvars.{found_between, types_stay}
 use Rattle.td_catalog.proofs.Lists.{all_between, all_kept, all_push, distinct_between, each_after_none, each_after_push, each_kept, has_front, not_true}
 use Rattle.td_check.specs.Scopes.{KnownRelvar, Scope, known_relvar, relvar_in}
@@ -14,6 +15,7 @@ use Rattle.td_check.proofs.StaticLaws.{more_changes_nothing}
 use Rattle.td_tree.specs.Names.{IsName}
 use Rattle.td_tree.specs.Outcomes.{Valued}
 use Rattle.td_tree.specs.Trees.{Tree}
+use Rattle.td_tree.specs.WrittenTrees.{IsWritten}
 use Rattle.td_types.specs.Headings.{are_distinct, has_name}
 use Rattle.td_types.specs.TypeLists.{AreDeclared, AreKnown, DeclaredType}
 use Rattle.td_types.specs.Types.{Heading, Type', pack, same_name}
@@ -36,6 +38,7 @@ typed_empty =
       constraints_named = tt;
       constraints_distinct = refl;
       constraints = tt;
+      written = record { constraints = tt; virtuals = tt };
     }
 
 -- ---- one more type
@@ -67,9 +70,9 @@ more_types ds d first second e t was is relvars entered typed =
       entered = entered;
     }) typed).0
 
-pub typed_with_type : (db : Database) (d : DeclaredType) → IsTyped db → AreDeclared (db.types ++ (d ∷ [])) → IsConstrained db.types d
+pub typed_with_type : (db : Database) (d : DeclaredType) → IsTyped db → AreDeclared (db.types ++ (d ∷ [])) → IsConstrained db.types d → ConstraintIsWritten d
     → IsTyped (with_declared d db)
-typed_with_type db d h all constrained =
+typed_with_type db d h all constrained written =
     record {
       declared = all;
       constrained = each_after_push IsConstrained db.types d h.constrained constrained;
@@ -82,6 +85,7 @@ typed_with_type db d h all constrained =
       constraints_named = h.constraints_named;
       constraints_distinct = h.constraints_distinct;
       constraints = all_kept (IsTypedConstraint (database_scope db)) (IsTypedConstraint (database_scope (with_declared d db))) constraint_kept db.constraints h.constraints;
+      written = record { constraints = all_push ConstraintIsWritten db.types d h.written.constraints written; virtuals = h.written.virtuals };
     }
   where
     virtual_kept : (earlier : List VirtualRelvar) (v : VirtualRelvar) → IsTypedVirtual (database_scope (with_virtuals earlier db)) v
@@ -147,13 +151,14 @@ typed_with_base db r h named new base =
           (λ c. types_stay (database_scope db) (database_scope (with_base r db)) c.tree types.boolean refl refl
           (known_with db r db.virtuals [] new (sym (append-nil db.virtuals))))
           db.constraints h.constraints;
+      written = record { constraints = h.written.constraints; virtuals = h.written.virtuals };
     }
 
 -- ---- one more virtual relvar
 
 pub typed_with_virtual : (db : Database) (v : VirtualRelvar) → IsTyped db → IsName v.name → knows_relvar v.name db ≡ false → IsTypedVirtual (database_scope db) v
-    → IsTyped (with_virtual v db)
-typed_with_virtual db v h named new virtual =
+    → IsWritten v.tree → IsTyped (with_virtual v db)
+typed_with_virtual db v h named new virtual written =
     record {
       declared = h.declared;
       constrained = h.constrained;
@@ -166,6 +171,7 @@ typed_with_virtual db v h named new virtual =
       constraints_named = h.constraints_named;
       constraints_distinct = h.constraints_distinct;
       constraints = all_kept (IsTypedConstraint (database_scope db)) (IsTypedConstraint (database_scope (with_virtual v db))) constraint_kept db.constraints h.constraints;
+      written = record { constraints = h.written.constraints; virtuals = all_push (λ (w : VirtualRelvar). IsWritten w.tree) db.virtuals v h.written.virtuals written };
     }
   where
     names : relvar_names (with_virtual v db) ≡ relvar_names db ++ (v.name ∷ [])
@@ -209,6 +215,7 @@ typed_with_constraint db c h named new constraint =
           all_push (IsTypedConstraint (database_scope (with_constraint c db))) db.constraints c
           (all_kept (IsTypedConstraint (database_scope db)) (IsTypedConstraint (database_scope (with_constraint c db))) stays db.constraints h.constraints)
           (stays c constraint);
+      written = record { constraints = h.written.constraints; virtuals = h.written.virtuals };
     }
   where
     names : constraint_names (with_constraint c db) ≡ constraint_names db ++ (c.name ∷ [])
@@ -277,6 +284,7 @@ typed_with_body db name relation h g =
       constraints =
           all_kept (IsTypedConstraint (database_scope db)) (IsTypedConstraint (database_scope (with_body name relation db)))
           (λ c. subst (λ s. IsTypedConstraint s c) (sym (scope db.virtuals))) db.constraints h.constraints;
+      written = record { constraints = h.written.constraints; virtuals = h.written.virtuals };
     }
 
 -- ---- what is asked of the relation that a relvar is to hold

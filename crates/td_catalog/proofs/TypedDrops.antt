@@ -18,6 +18,7 @@ use Rattle.td_check.proofs.StaticLaws.{drops_change_nothing, more_changes_nothin
 use Rattle.td_tree.specs.Names.{IsName}
 use Rattle.td_tree.specs.Outcomes.{Valued}
 use Rattle.td_tree.specs.Trees.{Tree}
+use Rattle.td_tree.specs.WrittenTrees.{IsWritten}
 use Rattle.td_types.specs.Headings.{are_distinct, has_name}
 use Rattle.td_types.specs.Types.{Type', boolean, pack, relation, same_name}
 use Rattle.td_types.proofs.NameTests.{name_tests_tell}
@@ -161,6 +162,11 @@ module _ (db : Database) (name : List ℕ) where
         constraints =
             all_kept_in (λ c. tree_mentions_relvar (database_scope db) name c.tree ≡ false) (IsTypedConstraint (database_scope db)) (IsTypedConstraint (database_scope (without_relvar name db)))
             (λ c u. typed_without db.virtuals c.tree boolean u all_of_them) db.constraints (none_of (λ c. tree_mentions_relvar (database_scope db) name c.tree) db.constraints uses.1) h.constraints;
+        written =
+            record {
+              constraints = h.written.constraints;
+              virtuals = all_removed (λ v. same_name v.name name) (λ (v : VirtualRelvar). IsWritten v.tree) db.virtuals h.written.virtuals;
+            };
       }
     where
       uses : (list_any (λ (v : VirtualRelvar). tree_mentions_relvar (database_scope db) name v.tree) db.virtuals ≡ false)
@@ -207,6 +213,7 @@ typed_without_constraint db name h =
           all_removed (λ c. same_name c.name name) (IsTypedConstraint (database_scope (without_constraint name db))) db.constraints
           (all_kept (IsTypedConstraint (database_scope db)) (IsTypedConstraint (database_scope (without_constraint name db)))
           (λ c. types_stay (database_scope db) (database_scope (without_constraint name db)) c.tree boolean refl refl (λ n q f. f)) db.constraints h.constraints);
+      written = record { constraints = h.written.constraints; virtuals = h.written.virtuals };
     }
   where
     names : constraint_names (without_constraint name db) ≡ remove_key (of_name name) (constraint_names db)

@@ -6,10 +6,11 @@ use Rattle.std.specs.List.{AllByRecursion, Contains, list_any}
 use Rattle.std.proofs.lemmas.List.{append-nil, append_assoc}
 use Rattle.std.proofs.lemmas.List.Folds.{list_any-append}
 use Rattle.td_catalog.specs.Database.{BaseRelvar, Database, NamedConstraint, VirtualRelvar, database_scope, known_base, known_virtual, with_virtuals, without_type}
+use Rattle.td_catalog.specs.WrittenDefinitions.{ConstraintIsWritten}
 use Rattle.td_catalog.specs.TypedDatabases.{IsConstrained, IsTyped, IsTypedBase, IsTypedConstraint, IsTypedVirtual}
 use Rattle.td_catalog.specs.Mentioned.{base_mentions_type, condition_mentions_type, is_type_in_use, tree_mentions_type, type_mentions_type}
 use Rattle.td_catalog.proofs.TypedDrops.{none_of, one_of, uncontained}
-use Rattle.td_catalog.proofs.Lists.{all_kept_in, all_push, each_kept, each_removed, neither}
+use Rattle.td_catalog.proofs.Lists.{all_kept_in, all_push, each_kept, each_removed, neither, all_removed}
 use Rattle.td_catalog.proofs.ValuesLeft.{not_made, rows_left}
 use Rattle.td_check.specs.Mentions.{types_in}
 use Rattle.td_check.specs.OperatorTypes.{if_type}
@@ -276,4 +277,9 @@ module _ (name : List ℕ) where
               all_kept_in (λ (c : NamedConstraint). tree_mentions_type name c.tree ≡ false) (IsTypedConstraint (database_scope db)) (IsTypedConstraint (database_scope (without_type name db)))
               (λ c u. typed_left db.virtuals c.tree boolean headings_apart u) db.constraints
               (none_of (λ (c : NamedConstraint). tree_mentions_type name c.tree) db.constraints apart_constraints) is_typed.constraints;
+          written =
+              record {
+                constraints = all_removed (λ (d : DeclaredType). same_name d.name name) ConstraintIsWritten db.types is_typed.written.constraints;
+                virtuals = is_typed.written.virtuals;
+              };
         }

@@ -3,7 +3,9 @@ use Rattle.std.specs.Prelude.{◌≡◌, ℕ, List, IsTrue, Some, not}
 use Rattle.td_catalog.specs.Database.{BaseRelvar, Database, NamedConstraint, VirtualRelvar, base_named, base_relvar, database_scope, empty_database, knows_constraint, knows_relvar, with_base, with_body, with_constraint, with_declared, with_virtual, without_constraint, without_relvar, without_type}
 use Rattle.td_catalog.specs.Mentioned.{is_relvar_in_use, is_type_in_use}
 use Rattle.td_catalog.specs.TypedDatabases.{IsConstrained, IsTyped, IsTypedBase, IsTypedConstraint, IsTypedVirtual}
+use Rattle.td_catalog.specs.WrittenDefinitions.{ConstraintIsWritten}
 use Rattle.td_tree.specs.Names.{IsName}
+use Rattle.td_tree.specs.WrittenTrees.{IsWritten}
 use Rattle.td_types.specs.TypeLists.{DeclaredType, IsDeclarable}
 use Rattle.td_value.specs.Values.{Relation}
 
@@ -14,7 +16,8 @@ EmptyDatabaseIsTyped = IsTyped empty_database
 -- a database stays typed with one more type that may be declared after the others
 abbrev pub TypesKeepTyped : Type 0
 TypesKeepTyped =
-    (db : Database) (d : DeclaredType) → IsTyped db → IsDeclarable db.types d → IsConstrained db.types d → IsTyped (with_declared d db)
+    (db : Database) (d : DeclaredType) → IsTyped db → IsDeclarable db.types d → IsConstrained db.types d → ConstraintIsWritten d
+    → IsTyped (with_declared d db)
 
 -- a database stays typed with one more base relvar, of a new name
 abbrev pub BaseRelvarsKeepTyped : Type 0
@@ -26,7 +29,7 @@ BaseRelvarsKeepTyped =
 abbrev pub VirtualRelvarsKeepTyped : Type 0
 VirtualRelvarsKeepTyped =
     (db : Database) (v : VirtualRelvar) → IsTyped db → IsName v.name → IsTrue (not (knows_relvar v.name db))
-    → IsTypedVirtual (database_scope db) v → IsTyped (with_virtual v db)
+    → IsTypedVirtual (database_scope db) v → IsWritten v.tree → IsTyped (with_virtual v db)
 
 -- a database stays typed with one more constraint, of a new name
 abbrev pub ConstraintsKeepTyped : Type 0

@@ -3,6 +3,7 @@
 use Rattle.std.specs.Prelude.{◌≡◌, List, [], ◌∷◌, ◌++◌, IsTrue}
 use Rattle.std.specs.List.{AllByRecursion}
 use Rattle.td_catalog.specs.Database.{BaseRelvar, Database, NamedConstraint, VirtualRelvar, constraint_names, database_scope, relvar_names, with_virtuals}
+use Rattle.td_catalog.specs.WrittenDefinitions.{DefinitionsAreWritten}
 use Rattle.td_check.specs.Scopes.{Scope, scope_of}
 use Rattle.td_check.specs.StaticTypes.{type_of}
 use Rattle.td_check.specs.StatementTypes.{constraint_fits}
@@ -50,7 +51,8 @@ IsTypedConstraint scope c = type_of scope c.tree ≡ Valued boolean
 
 -- the types can be declared in their order, each is constrained where the earlier ones are declared; the names of relvars are
 -- names and distinct, and so are those of constraints; each base relvar is typed, each virtual relvar is where the types, the
--- base relvars and the earlier virtual relvars are known, and each constraint is where all of these are
+-- base relvars and the earlier virtual relvars are known, and each constraint is where all of these are; definitions are written
+-- as tokens spell them
 pub record IsTyped (db : Database) : Type 0 where
   pub declared : AreDeclared db.types
   pub constrained : EachAfter IsConstrained db.types
@@ -61,3 +63,4 @@ pub record IsTyped (db : Database) : Type 0 where
   pub constraints_named : AllByRecursion IsName (constraint_names db)
   pub constraints_distinct : IsTrue (are_distinct (constraint_names db))
   pub constraints : AllByRecursion (IsTypedConstraint (database_scope db)) db.constraints
+  pub written : DefinitionsAreWritten db

@@ -1,5 +1,5 @@
 //! Entries that are added: each last in its list.
-ghost use Rattle.std.specs.Prelude.{◌≡◌, ◌+◌, ◌<◌, [], OnErr, OnOk, map, not, option_map};
+ghost use Rattle.std.specs.Prelude.{◌≡◌, ◌+◌, ◌<◌, [], OnErr, OnOk, Some, map, not, option_map};
 ghost use Rattle.std.specs.Prelude.{vec_capacity, vec_len};
 ghost use Rattle.td_catalog.specs.code.CatalogViews.{IsBodyOf, known_of, rows_of};
 ghost use Rattle.td_catalog.specs.Database.{base_relvar, database_scope};
@@ -12,6 +12,8 @@ ghost use Rattle.td_catalog.specs.TypedDatabases.{AreComponents, AreTyped, IsCon
 ghost use Rattle.td_catalog.specs.TypedDatabases.{IsTypedConstraint, IsTypedVirtual};
 ghost use Rattle.td_check.specs.StatementTypes.{holds_or};
 ghost use Rattle.td_tree.specs.Outcomes.{Answers};
+ghost use Rattle.td_tree.specs.Trees.{Tree};
+ghost use Rattle.td_tree.specs.WrittenTrees.{IsWritten};
 ghost use Rattle.td_tree.specs.code.TreeViews.{tree_view};
 ghost use Rattle.td_tree.specs.declared.cause.Cause.TheVariants as causes;
 ghost use Rattle.td_types.specs.TypeLists.{AreKnown, declared_type, is_declared};
@@ -50,6 +52,15 @@ pub(crate) fn prepare<B: Body>(
     log.reserve()
 }
 
+/// What holds of the constraint of a type, where it has one: it is written as tokens spell it.
+fn reveal_constraint(constraint: &Option<Expr>)
+    ensures { (e : Tree) → option_map tree_view constraint.now ≡ Some e → IsWritten e }
+{
+    if let Some(tree) = constraint {
+        tree.reveal();
+    }
+}
+
 impl<B: Body> Catalog<B> {
     /// Adds a type, last: refused where a type of the name is declared. `check_statement` tells
     /// whether its components and its constraint are as is required.
@@ -72,6 +83,7 @@ impl<B: Body> Catalog<B> {
         if self.tables.types.get(&name).is_some() {
             return Err(Fault::Refused(Cause::NameTaken));
         }
+        reveal_constraint(&constraint);
         let added = name.try_clone()?;
         self.log.reserve()?;
         self.tables.types.add(name, components, constraint)?;
@@ -148,6 +160,7 @@ impl<B: Body> Catalog<B> {
             return Err(Fault::Refused(Cause::NameTaken));
         }
         name.reveal();
+        tree.reveal();
         let known = name.try_clone()?;
         let known_heading = heading.try_clone()?;
         let tree = DefiningExpression::new(*self.tables.virtuals.allocator(), tree)?;

@@ -13,7 +13,6 @@ pub mod Opens
 pub mod PlannableAssignments
 pub mod Plannables
 pub mod PutGifts
-pub mod SpelledDefinitions
 pub mod StageLaws
 pub mod TestedChanges
 pub mod ToldLaws

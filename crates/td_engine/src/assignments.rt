@@ -15,7 +15,7 @@ ghost use Rattle.td_engine.specs.Checks.{BasesHold, base_check, first_refusal};
 ghost use Rattle.td_engine.specs.code.Gifts.{AreGifts, gift_of, gifted_bases};
 ghost use Rattle.td_engine.specs.LeftOut.{PassesElsewhere};
 ghost use Rattle.td_engine.specs.Machine.{by_outcome, checked_effect};
-ghost use Rattle.td_engine.specs.Legality.{AreSpelled, IsLegal};
+ghost use Rattle.td_engine.specs.Legality.{IsLegal};
 ghost use Rattle.td_engine.specs.code.Plannable.{IsAdmittedAssignment, IsPlannableAssignment};
 ghost use Rattle.td_engine.specs.code.Plannable.{LeavesGift};
 ghost use Rattle.td_engine.specs.code.Stages.{GoesOn};
@@ -305,7 +305,6 @@ fn settle_gifts<B: Body>(
     catalog: &Catalog<B>,
     given: &IndexMap<Name, Change>,
 ) -> Result<(), Failure>
-    requires spelled { AreSpelled catalog.now.database }
     requires held { BasesHold catalog.now.database }
     requires elsewhere { PassesElsewhere
         (reached_from (keys_of given.now.entries) catalog.now.database.virtuals)

@@ -12,7 +12,6 @@ ghost use Rattle.td_engine.specs.Checks.{keys_hold, refusal_unless_passed, virtu
 ghost use Rattle.td_engine.specs.Checks.{virtual_test};
 ghost use Rattle.td_engine.specs.LeftOut.{PassesElsewhere, PassesUnlessNamed};
 ghost use Rattle.td_engine.specs.LeftOut.{PassesUnlessReached};
-ghost use Rattle.td_engine.specs.Legality.{AreSpelled};
 ghost use Rattle.td_engine.specs.Machine.{checked_effect};
 ghost use Rattle.td_engine.specs.code.Plannable.{IsPlannable};
 ghost use Rattle.td_engine.specs.Refusals.{by_constraint, by_key};
@@ -195,8 +194,7 @@ fn check_virtuals<B: Body>(
     catalog: &Catalog<B>,
     reached: &MarkedNames,
 ) -> Result<(), Failure>
-    requires spelled { AreSpelled catalog.now.database }
-    requires elsewhere { AllByRecursion
+    requires { AllByRecursion
         (PassesUnlessReached reached.now (world_of catalog.now.database))
         catalog.now.database.virtuals }
     ensures { Passes result
@@ -256,8 +254,7 @@ fn check_constraints<B: Body>(
     catalog: &Catalog<B>,
     reached: &MarkedNames,
 ) -> Result<(), Failure>
-    requires spelled { AreSpelled catalog.now.database }
-    requires elsewhere { AllByRecursion
+    requires { AllByRecursion
         (PassesUnlessNamed reached.now (world_of catalog.now.database))
         catalog.now.database.constraints }
     ensures { Passes result
@@ -283,8 +280,7 @@ fn check_derived<B: Body>(
     catalog: &Catalog<B>,
     reached: &MarkedNames,
 ) -> Result<(), Failure>
-    requires spelled { AreSpelled catalog.now.database }
-    requires elsewhere { PassesElsewhere reached.now catalog.now.database }
+    requires { PassesElsewhere reached.now catalog.now.database }
     ensures { Passes result (derived_check catalog.now.database) }
 {
     match check_virtuals(alloc, catalog, reached) {
@@ -300,7 +296,6 @@ pub(crate) fn check_after<B: Body>(
     catalog: &Catalog<B>,
     reached: &MarkedNames,
 ) -> Result<(), Failure>
-    requires spelled { AreSpelled catalog.now.database }
     requires held { BasesHold catalog.now.database }
     requires elsewhere { PassesElsewhere reached.now catalog.now.database }
     ensures { Changes catalog.now.database result (checked_effect catalog.now.database) }
@@ -347,7 +342,6 @@ pub(crate) fn check_last_virtual<B: Body>(
     alloc: Global,
     catalog: &Catalog<B>,
 ) -> Result<(), Failure>
-    requires { AreSpelled catalog.now.database }
     ensures { (db : Database) (v : VirtualRelvar) → catalog.now.database ≡ with_virtual v db
         → Passes result (virtual_check (world_of catalog.now.database) v) }
 {
@@ -364,7 +358,6 @@ pub(crate) fn check_last_constraint<B: Body>(
     alloc: Global,
     catalog: &Catalog<B>,
 ) -> Result<(), Failure>
-    requires { AreSpelled catalog.now.database }
     ensures { (db : Database) (k : NamedConstraint)
         → catalog.now.database ≡ with_constraint k db
         → Passes result (constraint_check (world_of catalog.now.database) k) }

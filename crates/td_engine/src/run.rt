@@ -99,7 +99,7 @@ fn read_piece<R: Source>(
     ensures fed { IfOk result
         (IsFed cutter.old cutter.new (R.left reader.old) (R.left reader.new)) }
     ensures fits { IfOk result (λ count. count ≤ room) }
-    ensures whole { OnOk result (IsFalse (R.is_broken reader.new)) }
+    ensures whole { OnOk result (R.is_broken reader.new ≡ R.is_broken reader.old) }
     ensures memory { IfErr result (IfMemory (λ n. (n ≡ done)
         × ((piece : List ℕ) × Consumes (R.left reader.old) (R.left reader.new) piece))) }
     ensures read { IfErr result (IfRead (λ n. (n ≡ done) × IsTrue (R.is_broken reader.new)
@@ -254,7 +254,7 @@ pub fn run_within<B: Body, R: Source, W: Sink>(
         (R.left reader.old) (R.left reader.new) (λ script. IsLeft
         (run_of stop (standing engine.old (W.taken writer.old)) script)
         (standing engine.new (W.taken writer.new)) report)) }
-    ensures whole { OnOk result (IsFalse (R.is_broken reader.new)
+    ensures whole { OnOk result (StaysWhole (R.is_broken reader.old) (R.is_broken reader.new)
         × StaysWhole (W.is_broken writer.old) (W.is_broken writer.new)) }
     ensures memory { IfErr result (IfMemory (λ done.
         OfFront done (R.left reader.old) (R.left reader.new) (λ script. HasRun
@@ -313,7 +313,7 @@ pub fn run<B: Body, R: Source, W: Sink>(
         (R.left reader.old) (R.left reader.new) (λ script. IsLeft
         (run_of stop (standing engine.old (W.taken writer.old)) script)
         (standing engine.new (W.taken writer.new)) report)) }
-    ensures whole { OnOk result (IsFalse (R.is_broken reader.new)
+    ensures whole { OnOk result (StaysWhole (R.is_broken reader.old) (R.is_broken reader.new)
         × StaysWhole (W.is_broken writer.old) (W.is_broken writer.new)) }
     ensures memory { IfErr result (IfMemory (λ done.
         OfFront done (R.left reader.old) (R.left reader.new) (λ script. HasRun

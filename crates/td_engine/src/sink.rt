@@ -1,7 +1,6 @@
 //! Where answers go.
 ghost use Rattle.std.specs.Prelude.{◌≡◌, ℕ, ◌<◌, ◌≤◌, Bool, cond, List, length, Option, None, IfOk};
-ghost use Rattle.std.specs.Prelude.{OnOk};
-ghost use Rattle.std.specs.Prelude.{OnErr, is_err, take, IsTrue, IsFalse};
+ghost use Rattle.std.specs.Prelude.{IsFalse, IsTrue, OnErr, OnOk, take};
 ghost use Rattle.std.specs.Io.KnownBytes.{Appends};
 ghost use Rattle.td_engine.specs.Told.{AppendsIfTold, Puts, StaysWhole};
 
@@ -13,7 +12,7 @@ pub trait Sink {
     /// The bytes that it has taken, where it tells them.
     ghost taken: { Self → Option (List ℕ) };
 
-    /// Whether its last call answered `Broken`.
+    /// Whether a call has answered `Broken`: what is broken stays so.
     ghost is_broken: { Self → Bool };
 
     /// Takes bytes off the front and answers how many: at least 1, where there are any.
@@ -21,7 +20,8 @@ pub trait Sink {
         ensures bound { IfOk result (λ n. n ≤ length bytes.now) }
         ensures some { IfOk result (λ n. 0 < length bytes.now → 0 < n) }
         ensures bytes { Puts (taken self.old) (taken self.new) result bytes.now }
-        ensures broken { is_broken self.new ≡ is_err result };
+        ensures broken { OnErr result (IsTrue (is_broken self.new)) }
+        ensures stays { OnOk result (is_broken self.new ≡ is_broken self.old) };
 }
 
 /// A sink over a writer of std. An error, a write of no byte or too many answers `Interrupted`
@@ -64,7 +64,9 @@ impl<W: Write> Sink for IoSink<W> {
         ensures some { IfOk result (λ n. 0 < length bytes.now → 0 < n) }
         ensures bytes { Puts (⟦<IoSink<W> as Sink>⟧.taken self.old)
             (⟦<IoSink<W> as Sink>⟧.taken self.new) result bytes.now }
-        ensures broken { ⟦<IoSink<W> as Sink>⟧.is_broken self.new ≡ is_err result }
+        ensures broken { OnErr result (IsTrue (⟦<IoSink<W> as Sink>⟧.is_broken self.new)) }
+        ensures stays { OnOk result (⟦<IoSink<W> as Sink>⟧.is_broken self.new
+            ≡ ⟦<IoSink<W> as Sink>⟧.is_broken self.old) }
         ensures still { IsTrue (⟦<IoSink<W> as Sink>⟧.is_broken self.old)
             → self.new ≡ self.old }
     {

@@ -1,7 +1,6 @@
 //! Where a script comes from.
 ghost use Rattle.std.specs.Prelude.{◌≡◌, ℕ, ◌<◌, ◌≤◌, Bool, cond, List, length, Option, None, IfOk};
-ghost use Rattle.std.specs.Prelude.{is_err};
-ghost use Rattle.std.specs.Prelude.{IsTrue, IsFalse};
+ghost use Rattle.std.specs.Prelude.{IsFalse, IsTrue, OnErr, OnOk};
 ghost use Rattle.std.specs.Io.KnownBytes.{IsAtEnd};
 ghost use Rattle.td_engine.specs.Told.{Pulls};
 
@@ -19,7 +18,7 @@ pub trait Source {
     /// The bytes that it still has to give, where it tells them.
     ghost left: { Self → Option (List ℕ) };
 
-    /// Whether its last call answered `Broken`.
+    /// Whether a call has answered `Broken`: what is broken stays so.
     ghost is_broken: { Self → Bool };
 
     /// Moves the next bytes into the front of the buffer and answers how many they are: 0, for
@@ -28,7 +27,8 @@ pub trait Source {
         ensures bound { IfOk result (λ n. n ≤ length buffer.new) }
         ensures bytes { Pulls (left self.old) (left self.new) result buffer.new }
         ensures end { IfOk result (λ n. n ≡ 0 → 0 < length buffer.new → IsAtEnd (left self.new)) }
-        ensures broken { is_broken self.new ≡ is_err result };
+        ensures broken { OnErr result (IsTrue (is_broken self.new)) }
+        ensures stays { OnOk result (is_broken self.new ≡ is_broken self.old) };
 }
 
 /// A source over a reader of std. An error or too many answers `Interrupted` in a row break
@@ -72,7 +72,9 @@ impl<R: Read> Source for IoSource<R> {
             (⟦<IoSource<R> as Source>⟧.left self.new) result buffer.new }
         ensures end { IfOk result (λ n. n ≡ 0 → 0 < length buffer.new
             → IsAtEnd (⟦<IoSource<R> as Source>⟧.left self.new)) }
-        ensures broken { ⟦<IoSource<R> as Source>⟧.is_broken self.new ≡ is_err result }
+        ensures broken { OnErr result (IsTrue (⟦<IoSource<R> as Source>⟧.is_broken self.new)) }
+        ensures stays { OnOk result (⟦<IoSource<R> as Source>⟧.is_broken self.new
+            ≡ ⟦<IoSource<R> as Source>⟧.is_broken self.old) }
         ensures still { IsTrue (⟦<IoSource<R> as Source>⟧.is_broken self.old)
             → self.new ≡ self.old }
     {

@@ -2,7 +2,6 @@
 ghost use Rattle.std.specs.Prelude.{◌≡◌, ◌∷◌, ℕ, List, [], IfOk, IsTrue, length, map};
 ghost use Rattle.std.specs.Prelude.{option_map};
 ghost use Rattle.td_body.specs.Bodies.{after_change};
-ghost use Rattle.td_catalog.specs.WrittenDefinitions.{DefinitionsAreWritten};
 ghost use Rattle.td_check.specs.OperatorTypes.{attribute_type};
 ghost use Rattle.td_engine.specs.Assignments.{assignment_value, chosen_for, of_heading};
 ghost use Rattle.td_engine.specs.Assignments.{relation_for, setting_attributes, setting_names};
@@ -293,8 +292,7 @@ pub(crate) fn updated_tuples<'a, B: Body>(
     chosen: &Rel,
     settings: &[NamedExpr],
 ) -> Result<Rel, Fault>
-    requires definitions { DefinitionsAreWritten env.now.catalog.now.database }
-    requires settings { PartsMeetRulesIn (world_in env.now) (scope_in env.now)
+    requires { PartsMeetRulesIn (world_in env.now) (scope_in env.now)
         (tuples_in_hand env.now) chosen.now (named_view settings.now) }
     ensures answer { (so_far : Relation) → so_far.heading ≡ chosen.now.heading
         → Answers (λ r. after_change chosen.now r so_far) result

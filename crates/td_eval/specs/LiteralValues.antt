@@ -11,7 +11,6 @@ use Rattle.td_eval.specs.ValueLaws.{HasLater}
 use Rattle.td_eval.specs.ValueTypes.{AreComponentsOf}
 use Rattle.td_eval.specs.Worlds.{World, selector_outcome}
 use Rattle.td_tree.specs.Outcomes.{Valued}
-use Rattle.td_types.specs.TypeListLaws.{ConstraintsAreWritten}
 use Rattle.td_types.specs.TypeLists.{DeclaredType}
 use Rattle.td_types.specs.Types.{Type'}
 use Rattle.td_value.specs.KnownValues.{HasType}
@@ -66,7 +65,7 @@ MeetsConstraints ds = EachUserValue (MeetConstraint ds)
 -- a type's constraint has the same value where the list of types is cut before it: the types behind it don't count
 abbrev pub CutTypesKeepConstraints : Type 0
 CutTypesKeepConstraints =
-    (db : Database) (earlier later : List DeclaredType) (d : DeclaredType) (vs : List Val) → IsTyped db → ConstraintsAreWritten db.types
+    (db : Database) (earlier later : List DeclaredType) (d : DeclaredType) (vs : List Val) → IsTyped db
     → db.types ≡ earlier ++ (d ∷ later) → AreComponentsOf db.types d vs
     → constraint_value (world_of_types db.types earlier) d vs ≡ constraint_value (world_of_types earlier earlier) d vs
 
@@ -103,12 +102,12 @@ StoredLiteralsHaveTheirValues =
 abbrev pub LaterTypesKeepWhatMeets : Type 0
 LaterTypesKeepWhatMeets =
     (first second : Database) (v : Val) (t : Type') → IsTyped first → IsTyped second
-    → ConstraintsAreWritten first.types → HasLater first second → IsValue v → HasType first.types v t
+    → HasLater first second → IsValue v → HasType first.types v t
     → MeetsConstraints first.types v → MeetsConstraints second.types v
 
 -- user values that meet their constraints do so where another type is dropped
 abbrev pub DropsKeepWhatMeets : Type 0
 DropsKeepWhatMeets =
     (db : Database) (dropped : List ℕ) (v : Val) (t : Type') → IsTyped db → IsTyped (without_type dropped db)
-    → ConstraintsAreWritten db.types → IsValue v → HasType (without_type dropped db).types v t
+    → IsValue v → HasType (without_type dropped db).types v t
     → MeetsConstraints db.types v → MeetsConstraints (without_type dropped db).types v

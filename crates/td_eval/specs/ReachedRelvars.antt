@@ -3,7 +3,6 @@ use Rattle.std.specs.Prelude.{◌≡◌, ℕ, false, List, [], ◌∷◌, ◌++�
 use Rattle.td_catalog.specs.Database.{BaseRelvar, Database, VirtualRelvar, base_named, database_scope}
 use Rattle.td_catalog.specs.NamedRelvars.{names_any}
 use Rattle.td_catalog.specs.TypedDatabases.{IsTyped}
-use Rattle.td_catalog.specs.WrittenDefinitions.{DefinitionsAreWritten}
 use Rattle.td_eval.specs.DatabaseWorlds.{world_of}
 use Rattle.td_eval.specs.TreeValues.{value_of}
 use Rattle.td_eval.specs.ValueLaws.{IsChecked}
@@ -29,6 +28,6 @@ pub record DiffersIn (changed : List (List ℕ)) (first second : Database) : Typ
 -- an expression that names nothing which the change reaches keeps its value, or its causes
 abbrev pub UnreachedValuesStay : Type 0
 UnreachedValuesStay =
-    (changed : List (List ℕ)) (first second : Database) (e : Tree) → IsTyped first → IsTyped second → DefinitionsAreWritten first
+    (changed : List (List ℕ)) (first second : Database) (e : Tree) → IsTyped first → IsTyped second
     → DiffersIn changed first second → IsChecked (database_scope first) [] e → names_any (reached_from changed first.virtuals) e ≡ false
     → value_of (world_of second) [] e ≡ value_of (world_of first) [] e

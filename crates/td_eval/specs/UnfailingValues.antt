@@ -3,7 +3,6 @@ use Rattle.std.specs.Prelude.{◌≡◌, ℕ, List, None, Some, IsTrue}
 use Rattle.std.specs.List.{AllByRecursion}
 use Rattle.td_catalog.specs.Database.{BaseRelvar, Database, base_named}
 use Rattle.td_catalog.specs.TypedDatabases.{AreTyped, IsTyped}
-use Rattle.td_catalog.specs.WrittenDefinitions.{DefinitionsAreWritten}
 use Rattle.td_check.specs.CannotFail.{cannot_fail}
 use Rattle.td_check.specs.declared.scope.Kind.TheVariants as kinds
 use Rattle.td_check.specs.Scopes.{KnownRelvar, Scope, known_relvar}
@@ -42,7 +41,7 @@ UnfailingExpressionsHaveValues =
 -- the world of a typed database is such a world, whatever keys and constraints it has
 abbrev pub TypedDatabasesGiveValues : Type 0
 TypedDatabasesGiveValues =
-    (db : Database) → IsTyped db → DefinitionsAreWritten db → GivesValues (world_of db) (world_of db).scope
+    (db : Database) → IsTyped db → GivesValues (world_of db) (world_of db).scope
 
 -- so is the world in which one of its base relvars has another relation of its heading
 abbrev pub OtherRelationsGiveValues : Type 0

@@ -4,7 +4,6 @@ use Rattle.std.specs.List.{AllByRecursion, Contains}
 use Rattle.std.specs.List.Sorted.{IsPermutation}
 use Rattle.td_catalog.specs.Database.{BaseRelvar, Database, NamedConstraint, VirtualRelvar, base_named, database_scope, knows_relvar, relvar_names, virtual_named, with_base, with_constraint, with_declared, with_virtual, without_constraint, without_relvar, without_type}
 use Rattle.td_catalog.specs.TypedDatabases.{IsTyped}
-use Rattle.td_catalog.specs.WrittenDefinitions.{DefinitionsAreWritten}
 use Rattle.td_check.specs.Mentions.{relvars_in, types_in}
 use Rattle.td_check.specs.Scopes.{Scope}
 use Rattle.td_check.specs.StaticLaws.{AgreeAt, AgreeOn, IsScope, UsersAllIn, is_other}
@@ -99,7 +98,7 @@ pub record AgreeOnEntries (among seen : List ℕ → Bool) (first second : Datab
 abbrev pub ValuesDependOnEntries : Type 0
 ValuesDependOnEntries =
     (among seen : List ℕ → Bool) (first second : Database) (s : List Tuple) (e : Tree) → IsTyped first → IsTyped second
-    → DefinitionsAreWritten first → IsChecked (database_scope first) s e
+    → IsChecked (database_scope first) s e
     → AgreeOnEntries among seen first second s e → value_of (world_of second) s e ≡ value_of (world_of first) s e
 
 -- an expression that does not mention a dropped entry keeps its value, where the database is typed
@@ -107,19 +106,19 @@ ValuesDependOnEntries =
 pub record DropsChangeNoValue : Type 0 where
   pub relvar :
       (db : Database) (dropped : List ℕ) (s : List Tuple) (e : Tree) → IsTyped db → IsTyped (without_relvar dropped db)
-      → DefinitionsAreWritten db → IsChecked (database_scope db) s e
+      → IsChecked (database_scope db) s e
       → (Contains (relvars_in (with_tuples (database_scope db) s) e) dropped → ⊥)
       → value_of (world_of (without_relvar dropped db)) s e ≡ value_of (world_of db) s e
   pub type :
       (db : Database) (dropped : List ℕ) (s : List Tuple) (e : Tree) → IsTyped db → IsTyped (without_type dropped db)
-      → DefinitionsAreWritten db → IsChecked (database_scope db) s e
+      → IsChecked (database_scope db) s e
       → ((h : Heading) → Contains (map heading_of s) h → UsersAllIn (is_other dropped) (pack h))
       → (Contains (types_in e) dropped → ⊥)
       → value_of (world_of (without_type dropped db)) s e ≡ value_of (world_of db) s e
   -- no expression mentions a constraint
   pub constraint :
       (db : Database) (dropped : List ℕ) (s : List Tuple) (e : Tree) → IsTyped db → IsTyped (without_constraint dropped db)
-      → DefinitionsAreWritten db → IsChecked (database_scope db) s e
+      → IsChecked (database_scope db) s e
       → value_of (world_of (without_constraint dropped db)) s e ≡ value_of (world_of db) s e
 
 -- ---- later entries
@@ -136,7 +135,7 @@ pub record HasLater (first second : Database) : Type 0 where
 -- added to a typed database stands behind, a relvar where no relvar has its name
 pub record LaterEntriesChangeNothing : Type 0 where
   pub values :
-      (first second : Database) (s : List Tuple) (e : Tree) → IsTyped first → DefinitionsAreWritten first
+      (first second : Database) (s : List Tuple) (e : Tree) → IsTyped first
       → HasLater first second → IsChecked (database_scope first) s e → value_of (world_of second) s e ≡ value_of (world_of first) s e
   pub one_type : (db : Database) (d : DeclaredType) → IsTyped db → HasLater db (with_declared d db)
   pub one_base : (db : Database) (r : BaseRelvar) → IsTyped db → IsTrue (not (knows_relvar r.name db)) → HasLater db (with_base r db)

@@ -4,7 +4,6 @@ use Rattle.std.specs.Prelude.{◌≡◌, ℕ, List, ◌++◌, Some, Result, Ok, 
 use Rattle.std.specs.List.{AllByRecursion}
 use Rattle.td_catalog.specs.Database.{BaseRelvar, Database, base_named}
 use Rattle.td_catalog.specs.TypedDatabases.{AreTyped, IsTyped}
-use Rattle.td_catalog.specs.WrittenDefinitions.{DefinitionsAreWritten}
 use Rattle.td_check.specs.Scopes.{KnownRelvar, Scope, known_relvar}
 use Rattle.td_check.specs.StaticLaws.{IsScope}
 use Rattle.td_check.specs.StaticTypes.{type_of}
@@ -87,8 +86,7 @@ ValuesKeepTypes =
 -- the world of a typed database is such a world
 abbrev pub TypedDatabasesKeepScopes : Type 0
 TypedDatabasesKeepScopes =
-    (db : Database) → IsTyped db → DefinitionsAreWritten db
-    → KeepsScope (world_of db) (world_of db).scope
+    (db : Database) → IsTyped db → KeepsScope (world_of db) (world_of db).scope
 
 -- so is the world in which one of its base relvars has another relation of its heading
 abbrev pub OtherRelationsKeepScopes : Type 0

@@ -11,7 +11,7 @@ use Rattle.td_plan.specs.declared.running.memo.Memo.{Memo}
 use Rattle.td_plan.specs.Plans.{PlanTree, PlanTrees, Slots, bound, more, none, plan_value, plan_values, plan_where_bound, slots_before, with_slot}
 use Rattle.td_plan.specs.code.Bindings.{IsBehind, IsHoisted}
 use Rattle.td_plan.specs.code.Hands.{slots_in}
-use Rattle.td_plan.specs.code.Memos.{AgreeBelow, AgreeBeside, AreApart, IsMemoBelow, IsReadyBelow, IsSound, KeepsBelow, Parts}
+use Rattle.td_plan.specs.code.Memos.{AgreeBelow, AgreeBeside, AreWithinReach, IsMemoBelow, IsReadyBelow, IsSound, KeepsBelow, Parts}
 use Rattle.td_plan.specs.code.QuickInside.{value_inside}
 use Rattle.td_tree.specs.Outcomes.{Outcome, with_value}
 use Rattle.td_value.specs.code.Views.{values_of}
@@ -73,7 +73,7 @@ module _ (w : World) (reach k n : ℕ) (row : List Val) (low : reach ≤ k) (hig
 
 -- the value of what stands behind them, in each of its tuples
 pub hoisted_value : (w : World) (inside inner : Inside) (slot reach : ℕ) (ps : PlanTrees) (p : PlanTree) (row : List Val) → reach ≤ inside.slot → inside.slot < slot
-    → AreApart reach slot ps → IsBehind w inside slot ps inner
+    → AreWithinReach reach slot ps → IsBehind w inside slot ps inner
     → plan_value w (with_slot inside.slot row (slots_in inside.outer.items)) (bound slot ps p) ≡ plan_value w (with_slot inner.slot row (slots_in inner.outer.items)) p
 hoisted_value w inside inner slot reach ps p row low high apart behind =
     let k = inside.slot in

@@ -6,7 +6,7 @@ use Rattle.td_plan.specs.declared.plan.step.Step.{Step}
 use Rattle.td_plan.proofs.PlacedLaws.{placed_all, placed_both, placed_map, placed_more}
 use Rattle.td_plan.proofs.Withins.{on_more}
 use Rattle.td_plan.specs.Plans.{PlanTree, PlanTrees, more}
-use Rattle.td_plan.specs.code.Memos.{AreApart, AreOn, AreSound, IsOn, IsSound, Parts, Placed}
+use Rattle.td_plan.specs.code.Memos.{AreWithinReach, AreOn, AreSound, IsOn, IsSound, Parts, Placed}
 use Rattle.td_plan.specs.code.Remembered.{AreAllAmong, AreAllRemembered, AreAmong, AreAmongBefore, AreAmongBut, AreBoundNames, AreEachKept, AreEachRemembered, AreRemembered, AreRememberedBound, AreRememberedInside, AreRememberedInsideBoth, AreThreeRemembered, IsRemembered, KeepsPart}
 use Rattle.td_plan.specs.code.StepViews.{step_view, steps_view}
 
@@ -296,11 +296,11 @@ pub bound_made : (make : PlanTrees → PlanTree → PlanTree) (a b slot reach : 
     → ((inner : List ℕ) (ps : PlanTrees) (p : PlanTree) → AreAmongBefore slot inner names → AreOn inner ps → IsOn inner p → IsOn names (make ps p))
     → (l l2 : Step) (os xs : List Step) (old new : Step) → AreRememberedBound a b slot reach names l os l2 xs → step_view old ≡ make (steps_view os) (step_view l)
     → step_view new ≡ make (steps_view xs) (step_view l2)
-    → ((ps : Parts) → (AreSound ps xs × IsSound ps l2) × AreApart reach slot (steps_view xs) → IsSound ps new) → IsRemembered a b names old new
+    → ((ps : Parts) → (AreSound ps xs × IsSound ps l2) × AreWithinReach reach slot (steps_view xs) → IsSound ps new) → IsRemembered a b names old new
 bound_made make a b slot reach names law l l2 os xs old new h was is sound =
     let on = h.on in
     record {
       view = is ∙ (λ i. make (h.views i) (h.value i)) ∙ sym was;
       on = subst (IsOn names) (sym was) (law on.0 (steps_view os) (step_view l) on.3 on.2 on.1);
-      placed = placed_map a b _ _ (λ ps x. sound ps (x, subst (AreApart reach slot) (sym h.views) h.apart)) h.placed;
+      placed = placed_map a b _ _ (λ ps x. sound ps (x, subst (AreWithinReach reach slot) (sym h.views) h.apart)) h.placed;
     }

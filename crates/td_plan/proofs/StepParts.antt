@@ -11,7 +11,7 @@ use Rattle.td_plan.specs.declared.plan.step.Step.{Step, Row_of-Step, end_of-Step
 use Rattle.td_plan.specs.declared.plan.step.Step.TheVariants as p
 use Rattle.td_plan.specs.declared.running.memo.Memo.{Memo}
 use Rattle.td_plan.specs.Plans.{PlanTree, Slots, bound, extend, plan_value, select, summarize_by, summarize_per}
-use Rattle.td_plan.specs.code.Memos.{AreApart, AreSound, IsMemo, IsReady, IsSound, IsSoundRow, Keeps, Parts}
+use Rattle.td_plan.specs.code.Memos.{AreWithinReach, AreSound, IsMemo, IsReady, IsSound, IsSoundRow, Keeps, Parts}
 use Rattle.td_plan.specs.code.Runs.{step_value}
 use Rattle.td_plan.specs.code.StepHeights.{row_height, step_height, steps_height}
 use Rattle.td_plan.specs.code.StepViews.{selector_view, step_view, steps_row, steps_view}
@@ -104,15 +104,15 @@ module _ (step : Step) (v : Vec Step) (xs : List Step) (parts : xs ≡ v.items) 
     view = ap step_view is ∙ bound_is slot reach v b ∙ (λ i. bound slot (steps_view (sym parts i)) (step_view (sym value i)));
     height = ap step_height is ∙ (λ i. suc (max ((parts_high v ∙ ap steps_height (sym parts)) i) (step_height (sym value i))));
     sound = λ ps h.
-        let all : IsSoundRow ps (element_row (p.Select selectors.Relation v)).1 × IsSound ps b.value × AreApart reach slot (steps_row (element_row (p.Select selectors.Relation v)).1) = subst (IsSound ps) is h in
+        let all : IsSoundRow ps (element_row (p.Select selectors.Relation v)).1 × IsSound ps b.value × AreWithinReach reach slot (steps_row (element_row (p.Select selectors.Relation v)).1) = subst (IsSound ps) is h in
         (subst (AreSound ps) (sym parts) (parts_sound ps v all.0), subst (IsSound ps) (sym value) all.1);
   }
 
   -- its tuples name no slot from the reach up to their own
-  pub bound_apart : (slot reach : ℕ) (b : Box Step) (ps : Parts) → step ≡ p.Bound slot reach v b → IsSound ps step → AreApart reach slot (steps_view xs)
+  pub bound_apart : (slot reach : ℕ) (b : Box Step) (ps : Parts) → step ≡ p.Bound slot reach v b → IsSound ps step → AreWithinReach reach slot (steps_view xs)
   bound_apart slot reach b ps is h =
-      let all : IsSoundRow ps (element_row (p.Select selectors.Relation v)).1 × IsSound ps b.value × AreApart reach slot (steps_row (element_row (p.Select selectors.Relation v)).1) = subst (IsSound ps) is h in
-      subst (AreApart reach slot) (steps_are v ∙ ap steps_view (sym parts)) all.2
+      let all : IsSoundRow ps (element_row (p.Select selectors.Relation v)).1 × IsSound ps b.value × AreWithinReach reach slot (steps_row (element_row (p.Select selectors.Relation v)).1) = subst (IsSound ps) is h in
+      subst (AreWithinReach reach slot) (steps_are v ∙ ap steps_view (sym parts)) all.2
 
 -- ---- the run of such a step
 

@@ -4,7 +4,6 @@ use Rattle.std.specs.List.{AllByRecursion}
 use Rattle.std.specs.Prelude.{is_some}
 use Rattle.td_catalog.specs.Database.{Database, VirtualRelvar, database_scope, virtual_named}
 use Rattle.td_catalog.specs.TypedDatabases.{IsTyped}
-use Rattle.td_catalog.specs.WrittenDefinitions.{DefinitionsAreWritten}
 use Rattle.td_check.specs.Scopes.{Scope, known_relvar}
 use Rattle.td_check.specs.StaticTypes.{type_of}
 use Rattle.td_check.proofs.StaticLaws.{more_changes_nothing}
@@ -22,7 +21,7 @@ use Rattle.td_eval.proofs.code_lemmas.WorldParts.{virtual_name, world_scope, wor
 use Rattle.td_plan.specs.declared.running.surroundings.ValuedRelvar.{ValuedRelvar}
 use Rattle.td_plan.specs.code.Hands.{AreValued, IsValued}
 use Rattle.td_plan.specs.Plans.{PlanTree}
-use Rattle.td_plan.specs.PlansOf.{AreInHand, IsPlanFor, IsPlanOf, IsPlanOfTyped, outermost}
+use Rattle.td_plan.specs.PlansOf.{AreInHand, IsPlanFor, IsPlanIfTyped, IsPlanOf, outermost}
 use Rattle.td_plan.specs.VirtualRelvars.{VirtualRelvarsAreTheirExpressions}
 use Rattle.td_tree.specs.declared.fault.Fault.{Fault}
 use Rattle.td_tree.specs.Outcomes.{Answers, Outcome, Valued}
@@ -32,10 +31,10 @@ use Rattle.td_types.specs.Types.{pack}
 use Rattle.td_types.specs.Types as types
 use Rattle.td_value.specs.Values.{Tuple, Val}
 
-module _ (db : Database) (is_typed : IsTyped db) (written : DefinitionsAreWritten db) where
+module _ (db : Database) (is_typed : IsTyped db) where
   -- the database gives values in its scope
   pub database_gives : GivesValues (world_of db) (database_scope db)
-  database_gives = subst (GivesValues (world_of db)) (world_scope db) (typed_databases_give_values db is_typed written)
+  database_gives = subst (GivesValues (world_of db)) (world_scope db) (typed_databases_give_values db is_typed)
 
   module _ (n : List ℕ) (v : VirtualRelvar) (is : virtual_named n db ≡ Some v) where
     -- where it stands
@@ -43,8 +42,8 @@ module _ (db : Database) (is_typed : IsTyped db) (written : DefinitionsAreWritte
     at = named_at virtual_name n db.virtuals v is
 
     -- its expression is written, and has its relation type
-    pub virtual_written : IsWritten v.tree
-    virtual_written = all_at (λ (u : VirtualRelvar). IsWritten u.tree) at.0 v at.1 (subst (AllByRecursion (λ (u : VirtualRelvar). IsWritten u.tree)) at.2 written.virtuals)
+    virtual_written : IsWritten v.tree
+    virtual_written = all_at (λ (u : VirtualRelvar). IsWritten u.tree) at.0 v at.1 (subst (AllByRecursion (λ (u : VirtualRelvar). IsWritten u.tree)) at.2 is_typed.written.virtuals)
 
     typed_before : type_of (database_scope (fronted db at.0)) v.tree ≡ Valued (types.relation (pack v.heading))
     typed_before = (is_typed.virtuals at.0 at.1 v at.2).typed
@@ -79,23 +78,23 @@ module _ (db : Database) (is_typed : IsTyped db) (written : DefinitionsAreWritte
         virtual_at db n v (no_base db n is_typed.distinct (ap is_some is)) at
         ∙ ap (λ (o : Outcome Val). Some o)
         (sym (same_in_more (database_scope (fronted db at.0)) (world_of (fronted db at.0)) (world_of db) has_more [] v.tree
-        (fronts_keep db is_typed written at.0 (v ∷ at.1) at.2) checked))
+        (fronts_keep db is_typed at.0 (v ∷ at.1) at.2) checked))
 
     -- what a plan of its expression answers where no tuple is in hand is an answer for it
-    pub virtual_planned : (r : Result Val Fault) (p : PlanTree) (e : Tree) → e ≡ v.tree → IsPlanOfTyped (database_scope db) p e
+    pub virtual_planned : (r : Result Val Fault) (p : PlanTree) (e : Tree) → e ≡ v.tree → IsPlanIfTyped (database_scope db) p e
         → ((scope : Scope) (outcome : World → List Tuple → Outcome Val) → IsPlanFor scope p outcome → GivesValues (world_of db) (outermost scope)
         → AreInHand scope [] → Answers (λ u. u) r (outcome (world_of db) []))
         → Answers (λ u. u) r (known_outcome ((world_of db).relvar n))
     virtual_planned r p e same planned found =
         let planned_here : IsPlanOf (database_scope db) p e =
-        planned (subst IsWritten (sym same) virtual_written) (types.relation (pack v.heading))
+        planned (types.relation (pack v.heading))
         (subst (λ t. type_of (database_scope db) t ≡ Valued (types.relation (pack v.heading))) (sym same) virtual_typed) in
         subst (λ o. Answers (λ (u : Val). u) r (known_outcome o)) (sym virtual_is)
         (subst (λ t. Answers (λ (u : Val). u) r (value_of (world_of db) [] t)) same
         (found (database_scope db) (λ w s. value_of w s e) planned_here database_gives (tt, refl)))
 
 pub virtual_relvars_are_their_expressions : VirtualRelvarsAreTheirExpressions
-virtual_relvars_are_their_expressions db n v is_typed written is = virtual_is db is_typed written n v is
+virtual_relvars_are_their_expressions db n v is_typed is = virtual_is db is_typed n v is
 
 -- ---- virtual relvars that have been valued
 

@@ -41,9 +41,13 @@ IsPlanFor scope p outcome =
 abbrev pub IsPlanOf : Scope → PlanTree → Tree → Type 0
 IsPlanOf scope p e = IsPlanFor scope p (λ w s. value_of w s e)
 
--- of an expression that has a type in the scope, and is written as tokens spell it, the plan is one of it
+-- of an expression that has a type in the scope, the plan is one of it
+abbrev pub IsPlanIfTyped : Scope → PlanTree → Tree → Type 0
+IsPlanIfTyped scope p e = (t : Type') → type_of scope e ≡ Valued t → IsPlanOf scope p e
+
+-- the same of what is written as tokens spell it
 abbrev pub IsPlanOfTyped : Scope → PlanTree → Tree → Type 0
-IsPlanOfTyped scope p e = IsWritten e → (t : Type') → type_of scope e ≡ Valued t → IsPlanOf scope p e
+IsPlanOfTyped scope p e = IsWritten e → IsPlanIfTyped scope p e
 
 -- in a relation of the scope's types it sets these attributes, all at once, to what the parts are in each tuple, where these
 -- have types there and are written as tokens spell them
@@ -60,11 +64,10 @@ abbrev pub scope_in : {B : Type 0} → Env B → Scope
 scope_in env = with_tuples (database_scope env.catalog.now.database) (tuples_in_hand env)
 
 -- an expression that has a type in the scope, in a world that gives values there, with tuples of
--- the scope, and is written as tokens spell it
+-- the scope
 pub record MeetsRules (w : World) (scope : Scope) (s : List Tuple) (e : Tree) : Type 0 where
   pub gives : GivesValues w (outermost scope)
   pub tuples : AreInHand scope s
-  pub written : IsWritten e
   pub typed : (t : Type') × (type_of scope e ≡ Valued t)
 
 -- parts that have types in the tuples of the relation, whose tuples are of their types
@@ -72,5 +75,4 @@ pub record PartsMeetRulesIn (w : World) (scope : Scope) (s : List Tuple) (r : Re
   pub gives : GivesValues w (outermost scope)
   pub tuples : AreInHand scope s
   pub relation : IsRelation r × AllByRecursion (IsTypedTuple scope.types) r.body
-  pub written : PartsGiveNames parts × PartsHaveTexts parts
   pub typed : (xs : List Attribute) × (named_types (entered_with r.heading scope) parts ≡ Valued xs)

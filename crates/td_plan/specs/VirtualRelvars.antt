@@ -2,7 +2,6 @@
 use Rattle.std.specs.Prelude.{◌≡◌, ℕ, List, [], Some}
 use Rattle.td_catalog.specs.Database.{Database, VirtualRelvar, virtual_named}
 use Rattle.td_catalog.specs.TypedDatabases.{IsTyped}
-use Rattle.td_catalog.specs.WrittenDefinitions.{DefinitionsAreWritten}
 use Rattle.td_eval.specs.DatabaseWorlds.{world_of}
 use Rattle.td_eval.specs.TreeValues.{value_of}
 
@@ -10,5 +9,5 @@ use Rattle.td_eval.specs.TreeValues.{value_of}
 -- known and no tuple is in scope
 abbrev pub VirtualRelvarsAreTheirExpressions : Type 0
 VirtualRelvarsAreTheirExpressions =
-    (db : Database) (n : List ℕ) (v : VirtualRelvar) → IsTyped db → DefinitionsAreWritten db → virtual_named n db ≡ Some v
+    (db : Database) (n : List ℕ) (v : VirtualRelvar) → IsTyped db → virtual_named n db ≡ Some v
     → (world_of db).relvar n ≡ Some (value_of (world_of db) [] v.tree)

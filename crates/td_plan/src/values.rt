@@ -1,6 +1,5 @@
 //! The values of expressions, by plans that are made of them and run.
 ghost use Rattle.std.specs.Prelude.{◌≡◌, IsTrue, length};
-ghost use Rattle.td_catalog.specs.WrittenDefinitions.{DefinitionsAreWritten};
 ghost use Rattle.td_eval.specs.OperatorValues.{of_relation, set_value};
 ghost use Rattle.td_eval.specs.code.Sights.{tuples_in_hand, world_in};
 ghost use Rattle.td_eval.specs.TreeValues.{value_of, values_in_tuples};
@@ -8,6 +7,7 @@ ghost use Rattle.td_plan.specs.PlansOf.{MeetsRules, PartsMeetRulesIn, scope_in};
 ghost use Rattle.td_tree.specs.Outcomes.{Answers, Outcome, with_value};
 ghost use Rattle.td_tree.specs.code.TreeViews.{named_view, tree_view};
 ghost use Rattle.td_tree.specs.Trees.{name, restriction};
+ghost use Rattle.td_tree.specs.WrittenTrees.{PartsGiveNames, PartsHaveTexts};
 ghost use Rattle.td_types.specs.Headings.{are_distinct};
 ghost use Rattle.td_types.specs.Types.{attribute_names};
 ghost use Rattle.td_types.specs.code.Views.{pairs_view};
@@ -29,7 +29,6 @@ use td_value::value::Value;
 /// The value of the expression, or the least of the causes for which it has none. Each virtual
 /// relvar that it may need is evaluated once.
 pub fn value_in<B: Body>(alloc: Global, env: &Env<'_, B>, expr: &Expr) -> Result<Value, Fault>
-    requires { DefinitionsAreWritten env.now.catalog.now.database }
     ensures { MeetsRules (world_in env.now) (scope_in env.now) (tuples_in_hand env.now)
         (tree_view expr.now) → Answers (λ v. v) result
         (value_of (world_in env.now) (tuples_in_hand env.now) (tree_view expr.now)) }
@@ -47,12 +46,12 @@ pub fn tuples_where<B: Body>(
     relvar: &Name,
     condition: &Expr,
 ) -> Result<Value, Fault>
-    requires { DefinitionsAreWritten env.now.catalog.now.database }
     ensures { MeetsRules (world_in env.now) (scope_in env.now) (tuples_in_hand env.now)
         (restriction (name relvar.now) (tree_view condition.now)) → Answers (λ v. v) result
         (value_of (world_in env.now) (tuples_in_hand env.now)
         (restriction (name relvar.now) (tree_view condition.now))) }
 {
+    condition.reveal();
     let plan = plan_in_relvar(alloc, env, relvar, condition)?;
     run_valued(alloc, env, &plan)
 }
@@ -66,6 +65,17 @@ fn relation_of(answer: Result<Value, Fault>) -> Result<Rel, Fault>
     Ok(relation_in(&value)?.try_clone()?)
 }
 
+/// What holds of all parts: they are written as tokens spell them.
+fn reveal_parts(parts: &[NamedExpr])
+    ensures names { PartsGiveNames (named_view parts.now) }
+    ensures texts { PartsHaveTexts (named_view parts.now) }
+{
+    for part in parts {
+        part.name.reveal();
+        part.value.reveal();
+    }
+}
+
 /// The relation with the attributes of each tuple set, all at once, to the values of the parts
 /// there, which are of the attributes' types.
 pub fn set_in_tuples<B: Body>(
@@ -75,7 +85,6 @@ pub fn set_in_tuples<B: Body>(
     attributes: Vec<(Name, Ty)>,
     parts: &[NamedExpr],
 ) -> Result<Rel, Fault>
-    requires written { DefinitionsAreWritten env.now.catalog.now.database }
     requires lengths { length attributes.items ≡ length parts.now }
     requires distinct { IsTrue (are_distinct (attribute_names (pairs_view attributes.items))) }
     ensures { PartsMeetRulesIn (world_in env.now) (scope_in env.now) (tuples_in_hand env.now)
@@ -83,6 +92,7 @@ pub fn set_in_tuples<B: Body>(
         (pairs_view attributes.items) (values_in_tuples (world_in env.now)
         (tuples_in_hand env.now) (named_view parts.now)) rel.now) }
 {
+    reveal_parts(parts);
     let plan = plan_settings(alloc, env, rel, attributes, parts)?;
     relation_of(run_valued(alloc, env, &plan))
 }

@@ -20,3 +20,4 @@ pub mod statement;
 pub mod token;
 pub mod tree_laws;
 pub mod type_tree;
+pub mod written;

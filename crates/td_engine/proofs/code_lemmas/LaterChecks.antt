@@ -9,7 +9,6 @@ use Rattle.td_engine.proofs.law_lemmas.EachOf.{all_given}
 use Rattle.td_engine.proofs.law_lemmas.RebuiltChecks.{none_refuses}
 use Rattle.td_engine.proofs.law_lemmas.SameTests.{IsKnown, all_known, name_checked, same_test, same_truth}
 use Rattle.td_engine.proofs.law_lemmas.TestsAfterDrops.{IsAsked, all_asked, tree_checked}
-use Rattle.td_engine.proofs.law_lemmas.WrittenStatements.{definitions_written}
 use Rattle.td_engine.specs.Checks.{constraint_check, derived_check, first_refusal, refusal_unless_passed, virtual_check}
 use Rattle.td_engine.specs.Legality.{HasKeysThatHold, IsLegal, IsTrueOf}
 use Rattle.td_engine.specs.Refusals.{Refusal, by_constraint, by_key}
@@ -38,7 +37,7 @@ last_decides check (y ∷ ys) x none = by_check (check y) refl none (last_decide
 
 module _ (db next : Database) (legal : IsLegal db) (later : HasLater db next) where
   same_value : (e : Tree) → IsChecked (database_scope db) [] e → value_of (world_of next) [] e ≡ value_of (world_of db) [] e
-  same_value e checked = later_entries_change_nothing.values db next [] e legal.typed (definitions_written db legal.spelled) later checked
+  same_value e checked = later_entries_change_nothing.values db next [] e legal.typed later checked
 
   virtuals_still : AllByRecursion (HasKeysThatHold (world_of next)) db.virtuals
   virtuals_still =

@@ -2,7 +2,6 @@
 use Rattle.std.proofs.Common.{◌≡◌, ◌∙◌, ◌∷◌, ℕ, true, List, [], Option, Some, None, ap, map, option_map, refl, subst, sym}
 use Rattle.std.specs.List.{AllByRecursion}
 use Rattle.td_catalog.specs.Database.{BaseRelvar, Database, base_named, database_scope}
-use Rattle.td_catalog.specs.WrittenDefinitions.{DefinitionsAreWritten}
 use Rattle.td_check.specs.OperatorTypes.{known_or, over_relation, restriction_type, same_type}
 use Rattle.td_check.specs.Scopes.{entered_with, known_relvar}
 use Rattle.td_check.specs.StatementTypes.{both_hold, condition_fits, is_target, source_fits, type_if_given}
@@ -11,7 +10,7 @@ use Rattle.td_engine.proofs.law_lemmas.Admitted.{both_asked}
 use Rattle.td_engine.proofs.code_lemmas.DeletedTuples.{same_world}
 use Rattle.td_engine.proofs.law_lemmas.GivenValues.{database_gives, source_gives}
 use Rattle.td_engine.proofs.law_lemmas.TypedGifts.{AreChecked, checked_condition, checked_setting_condition, checked_settings, checked_source, chosen_like, is_base, statement_each_checked, typed_gift}
-use Rattle.td_engine.proofs.law_lemmas.WrittenStatements.{AreWritten, definitions_written, statement_written}
+use Rattle.td_engine.proofs.law_lemmas.WrittenStatements.{AreWritten, statement_written}
 use Rattle.td_engine.specs.Assignments.{chosen_for, source_world, target_of}
 use Rattle.td_engine.specs.code.Carried.{IsAdmitted}
 use Rattle.td_engine.specs.code.Gifts.{IsGift}
@@ -36,32 +35,29 @@ use Rattle.td_types.specs.Types.{Heading, Type', boolean, pack, relation}
 use Rattle.td_value.specs.Values.{IsRelation, Relation}
 
 module _ (db : Database) (legal : IsLegal db) where
-  defined : DefinitionsAreWritten db
-  defined = definitions_written db legal.spelled
-
   -- a source that meets the rules
-  checked_plannable : (n : List ℕ) (e : Tree) → IsWritten e
+  checked_plannable : (n : List ℕ) (e : Tree)
       → both_hold (is_target (known_relvar (database_scope db) n))
       (with_value (type_of (database_scope db) e) (source_fits (known_relvar (database_scope db) n))) ≡ Valued tt
       → IsPlannable db e
-  checked_plannable n e is_written checked =
+  checked_plannable n e checked =
       let source = value_of_with (type_of (database_scope db) e) (source_fits (known_relvar (database_scope db) n)) tt (both_asked _ _ checked).1 in
-      record { gives = database_gives db legal.typed defined; definitions = defined; written = is_written; typed = (source.0, source.1) }
+      record { gives = database_gives db legal.typed; typed = (source.0, source.1) }
 
   -- what is inserted into a relvar to which nothing was given before, or is to be taken away from it
   pub insert_plannable : (n : List ℕ) (e : Tree) → IsAdmittedAssignment db (insert n e) → IsPlannable db e
-  insert_plannable n e is = checked_plannable n e is.written is.checked
+  insert_plannable n e is = checked_plannable n e is.checked
 
   pub disjoint_insert_plannable : (n : List ℕ) (e : Tree) → IsAdmittedAssignment db (disjoint_insert n e) → IsPlannable db e
-  disjoint_insert_plannable n e is = checked_plannable n e is.written is.checked
+  disjoint_insert_plannable n e is = checked_plannable n e is.checked
 
   pub included_delete_plannable : (n : List ℕ) (e : Tree) → IsAdmittedAssignment db (included_delete n e) → IsPlannable db e
-  included_delete_plannable n e is = checked_plannable n e is.written is.checked
+  included_delete_plannable n e is = checked_plannable n e is.checked
 
   -- a base relvar may be given what it holds
   pub base_gift : (n : List ℕ) (r : BaseRelvar) → base_named n db ≡ Some r → IsGift db (n, r.relation)
   base_gift n r at =
-      let is = is_base db legal.typed defined n r at in
+      let is = is_base db legal.typed n r at in
       record { target = r; named = at; heading = refl; relation = is.relation; typed = is.typed }
 
   -- a relation with values of their types
@@ -91,37 +87,31 @@ module _ (db : Database) (legal : IsLegal db) where
     source_plannable : (e : Tree)
         → both_hold (is_target (known_relvar (database_scope db) n))
         (with_value (type_of (database_scope db) e) (source_fits (known_relvar (database_scope db) n))) ≡ Valued tt
-        → IsWritten e → IsPlannableSource db n so_far e
-    source_plannable e checked is_written =
+        → IsPlannableSource db n so_far e
+    source_plannable e checked =
         record {
-          gives = source_gives db legal.typed defined n so_far gift;
-          definitions = defined;
-          written = is_written;
-          typed = checked_source db legal.typed defined n so_far gift e checked;
+          gives = source_gives db legal.typed n so_far gift;
+          typed = checked_source db legal.typed n so_far gift e checked;
         }
 
     condition_plannable : (condition : Option Tree) (k : Option Type')
         → type_if_given (entered_with gift.target.relation.heading (database_scope db)) condition ≡ Valued k → condition_fits k ≡ Valued tt
-        → IsWrittenIf condition → IsPlannableConditionIf db n so_far condition
-    condition_plannable None k typed fits is_written = tt
-    condition_plannable (Some e) k typed fits is_written =
+        → IsPlannableConditionIf db n so_far condition
+    condition_plannable None k typed fits = tt
+    condition_plannable (Some e) k typed fits =
         record {
-          gives = source_gives db legal.typed defined n so_far gift;
-          definitions = defined;
-          written = ((tt, is_written.0), (tt, is_written.1));
+          gives = source_gives db legal.typed n so_far gift;
           typed = (relation (pack gift.target.relation.heading), chosen_typed n gift.target gift.named e k typed fits);
         }
 
     settings_plannable : (style : Style) (condition : Option Tree) (settings : NamedTrees) → IsAdmittedAssignment db (update style n condition settings)
         → ArePlannableSettings db (source_world db n so_far) (chosen_for so_far (source_world db n so_far) n condition) settings
     settings_plannable style condition settings is =
-        let kinds = checked_settings db legal.typed defined n so_far gift style condition settings is.checked in
-        let like = chosen_like db legal.typed defined n so_far gift condition in
+        let kinds = checked_settings db legal.typed n so_far gift style condition settings is.checked in
+        let like = chosen_like db legal.typed n so_far gift condition in
         record {
-          gives = source_gives db legal.typed defined n so_far gift;
-          definitions = defined;
+          gives = source_gives db legal.typed n so_far gift;
           tuples = λ r e. tuples_typed r (like r e).0;
-          written = is.written.1;
           typed = λ r e. (
             kinds.0,
             subst (λ (h : Heading). named_types (entered_with h (database_scope db)) settings ≡ Valued kinds.0) (sym ((like r e).1 ∙ gift.heading)) kinds.1,
@@ -130,28 +120,26 @@ module _ (db : Database) (legal : IsLegal db) where
 
   pub assignment_plannable : (so_far : Relation) (a : Assignment) → IsGift db (target_of a, so_far) → IsAdmittedAssignment db a
       → IsPlannableAssignment db so_far a
-  assignment_plannable so_far (assign n e) gift is = source_plannable n so_far gift e is.checked is.written
-  assignment_plannable so_far (insert n e) gift is = source_plannable n so_far gift e is.checked is.written
-  assignment_plannable so_far (disjoint_insert n e) gift is = source_plannable n so_far gift e is.checked is.written
-  assignment_plannable so_far (included_delete n e) gift is = source_plannable n so_far gift e is.checked is.written
+  assignment_plannable so_far (assign n e) gift is = source_plannable n so_far gift e is.checked
+  assignment_plannable so_far (insert n e) gift is = source_plannable n so_far gift e is.checked
+  assignment_plannable so_far (disjoint_insert n e) gift is = source_plannable n so_far gift e is.checked
+  assignment_plannable so_far (included_delete n e) gift is = source_plannable n so_far gift e is.checked
   assignment_plannable so_far (delete n condition) gift is =
-      let k = checked_condition db legal.typed defined n so_far gift condition is.checked in
-      condition_plannable n so_far gift condition k.0 k.1 k.2 is.written
+      let k = checked_condition db legal.typed n so_far gift condition is.checked in
+      condition_plannable n so_far gift condition k.0 k.1 k.2
   assignment_plannable so_far (update style n condition settings) gift is =
-      let k = checked_setting_condition db legal.typed defined n so_far gift style condition settings is.checked in
-      (condition_plannable n so_far gift condition k.0 k.1 k.2 is.written.0, settings_plannable n so_far gift style condition settings is)
+      let k = checked_setting_condition db legal.typed n so_far gift style condition settings is.checked in
+      (condition_plannable n so_far gift condition k.0 k.1 k.2, settings_plannable n so_far gift style condition settings is)
 
   -- ---- what is chosen of what a base relvar holds
 
   module _ (n : List ℕ) (b : BaseRelvar) (at : base_named n db ≡ Some b) where
     chosen_plannable : (condition : Option Tree) (k : Option Type') → type_if_given (entered_with b.relation.heading (database_scope db)) condition ≡ Valued k
-        → condition_fits k ≡ Valued tt → IsWrittenIf condition → IsPlannableIf db (option_map (restriction (name n)) condition)
-    chosen_plannable None k typed fits is_written = tt
-    chosen_plannable (Some p) k typed fits is_written =
+        → condition_fits k ≡ Valued tt → IsPlannableIf db (option_map (restriction (name n)) condition)
+    chosen_plannable None k typed fits = tt
+    chosen_plannable (Some p) k typed fits =
         record {
-          gives = database_gives db legal.typed defined;
-          definitions = defined;
-          written = ((tt, is_written.0), (tt, is_written.1));
+          gives = database_gives db legal.typed;
           typed = (relation (pack b.relation.heading), chosen_typed n b at p k typed fits);
         }
 
@@ -159,15 +147,15 @@ module _ (db : Database) (legal : IsLegal db) where
         → IsPlannableIf db (option_map (restriction (name n)) condition)
     unfolding base_gift
     delete_plannable condition is =
-        let k = checked_condition db legal.typed defined n b.relation (base_gift n b at) condition is.checked in
-        chosen_plannable condition k.0 k.1 k.2 is.written
+        let k = checked_condition db legal.typed n b.relation (base_gift n b at) condition is.checked in
+        chosen_plannable condition k.0 k.1 k.2
 
     module _ (style : Style) (condition : Option Tree) (settings : NamedTrees) (is : IsAdmittedAssignment db (update style n condition settings)) where
       pub update_plannable : IsPlannableIf db (option_map (restriction (name n)) condition)
       unfolding base_gift
       update_plannable =
-          let k = checked_setting_condition db legal.typed defined n b.relation (base_gift n b at) style condition settings is.checked in
-          chosen_plannable condition k.0 k.1 k.2 is.written.0
+          let k = checked_setting_condition db legal.typed n b.relation (base_gift n b at) style condition settings is.checked in
+          chosen_plannable condition k.0 k.1 k.2
 
       pub update_settings : ArePlannableSettings db (world_of db) (chosen_for b.relation (world_of db) n condition) settings
       update_settings =
@@ -176,7 +164,7 @@ module _ (db : Database) (legal : IsLegal db) where
 
   -- ---- those of a statement
 
-  each_admitted : (xs : List code.Assignment) → AreWritten (map assignment_view xs) → AreChecked db legal.typed defined (map assignment_view xs)
+  each_admitted : (xs : List code.Assignment) → AreWritten (map assignment_view xs) → AreChecked db legal.typed (map assignment_view xs)
       → AllByRecursion (λ (x : code.Assignment). IsAdmittedAssignment db (assignment_view x)) xs
   each_admitted [] is_written checked = tt
   each_admitted (x ∷ xs) is_written checked = (record { written = is_written.0; checked = checked.0 }, each_admitted xs is_written.1 checked.1)
@@ -185,4 +173,4 @@ module _ (db : Database) (legal : IsLegal db) where
       → AllByRecursion (λ (x : code.Assignment). IsAdmittedAssignment db (assignment_view x)) xs
   all_admitted xs is =
       each_admitted xs (statement_written (assign_all (map assignment_view xs)) is.spelled)
-      (statement_each_checked db legal.typed defined (map assignment_view xs) is.checked)
+      (statement_each_checked db legal.typed (map assignment_view xs) is.checked)

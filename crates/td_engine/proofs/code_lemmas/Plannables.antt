@@ -10,14 +10,12 @@ use Rattle.td_check.specs.StaticTypes.{type_of}
 use Rattle.td_engine.proofs.law_lemmas.Admitted.{both_asked}
 use Rattle.td_engine.proofs.law_lemmas.EachOf.{of_place}
 use Rattle.td_engine.proofs.law_lemmas.GivenValues.{database_gives}
-use Rattle.td_engine.proofs.law_lemmas.WrittenStatements.{conditions_written, definitions_written, statement_written}
 use Rattle.td_engine.specs.code.Carried.{IsAdmitted}
-use Rattle.td_engine.specs.Legality.{AreSpelled, IsLegal}
-use Rattle.td_engine.specs.code.Plannable.{IsPlannable, IsPlannableIf, IsWrittenIf}
+use Rattle.td_engine.specs.Legality.{IsLegal}
+use Rattle.td_engine.specs.code.Plannable.{IsPlannable, IsPlannableIf}
 use Rattle.td_tree.specs.declared.cause.Cause.TheVariants as causes
 use Rattle.td_tree.specs.Outcomes.{Valued, with_value}
 use Rattle.td_tree.specs.Trees.{AttributeTrees, Text, Tree, define_base, name, write}
-use Rattle.td_tree.specs.WrittenTrees.{IsWritten}
 use Rattle.td_types.proofs.HeadingLaws.{same_name-itself}
 use Rattle.td_types.proofs.OutcomeLaws.{value_of_with, values_of_both}
 use Rattle.td_types.specs.TypeLists.{heading_meant}
@@ -55,22 +53,18 @@ pub write_plannable : (db : Database) (e : Tree) → IsLegal db → IsAdmitted d
 write_plannable db e legal is =
     let found = value_of_with (type_of (database_scope db) e) (λ t. Valued tt) tt is.checked in
     record {
-      gives = database_gives db legal.typed (definitions_written db legal.spelled);
-      definitions = definitions_written db legal.spelled;
-      written = statement_written (write e) is.spelled;
+      gives = database_gives db legal.typed;
       typed = (found.0, found.1);
     }
 
 -- what INIT gives
-init_typed : (db : Database) (init : Option Tree) (t : Option Type') → IsLegal db → type_if_given (database_scope db) init ≡ Valued t → IsWrittenIf init
+init_typed : (db : Database) (init : Option Tree) (t : Option Type') → IsLegal db → type_if_given (database_scope db) init ≡ Valued t
     → IsPlannableIf db init
-init_typed db None t legal typed written = tt
-init_typed db (Some e) t legal typed written =
+init_typed db None t legal typed = tt
+init_typed db (Some e) t legal typed =
     let found = value_of_with (type_of (database_scope db) e) _ t typed in
     record {
-      gives = database_gives db legal.typed (definitions_written db legal.spelled);
-      definitions = definitions_written db legal.spelled;
-      written = written;
+      gives = database_gives db legal.typed;
       typed = (found.0, found.1);
     }
 
@@ -78,18 +72,16 @@ pub init_plannable : (db : Database) (n : Text) (h : AttributeTrees) (init : Opt
     → IsAdmitted db (define_base n h init keys) → IsPlannableIf db init
 init_plannable db n h init keys legal is =
     let parts = values_of_both (heading_meant db.types h) (type_if_given (database_scope db) init) _ tt (both_asked _ _ is.checked).1 in
-    init_typed db init parts.1 legal parts.3 (statement_written (define_base n h init keys) is.spelled).2
+    init_typed db init parts.1 legal parts.3
 
 -- ---- what stands in a database
 
-module _ (db : Database) (is_typed : IsTyped db) (spelled : AreSpelled db) where
+module _ (db : Database) (is_typed : IsTyped db) where
   -- a constraint
   pub constraint_plannable : (place : ℕ) (c : NamedConstraint) → slice_get db.constraints place ≡ Some c → IsPlannable db c.tree
   constraint_plannable place c at =
       record {
-        gives = database_gives db is_typed (definitions_written db spelled);
-        definitions = definitions_written db spelled;
-        written = of_place (λ (c : NamedConstraint). IsWritten c.tree) db.constraints place c (conditions_written db spelled) at;
+        gives = database_gives db is_typed;
         typed = (boolean, of_place (IsTypedConstraint (database_scope db)) db.constraints place c is_typed.constraints at);
       }
 
@@ -98,8 +90,6 @@ module _ (db : Database) (is_typed : IsTyped db) (spelled : AreSpelled db) where
   virtual_plannable place v at =
       let known = behind v.name (map known_base db.bases) (map known_virtual db.virtuals) (virtual_known db.virtuals place v at) in
       record {
-        gives = database_gives db is_typed (definitions_written db spelled);
-        definitions = definitions_written db spelled;
-        written = (tt, tt);
+        gives = database_gives db is_typed;
         typed = (relation (pack known.0.heading), ap (λ o. with_value (known_or causes.NameUnknown o) (λ r. Valued (relation (pack r.heading)))) known.1);
       }

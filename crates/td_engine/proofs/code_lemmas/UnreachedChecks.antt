@@ -11,7 +11,6 @@ use Rattle.td_engine.proofs.law_lemmas.EachOf.{all_given, neither}
 use Rattle.td_engine.proofs.law_lemmas.Gifted.{given_none, same_named}
 use Rattle.td_engine.proofs.law_lemmas.SameTests.{IsKnown, all_known, name_checked, same_test, same_truth}
 use Rattle.td_engine.proofs.law_lemmas.TestsAfterDrops.{IsAsked, all_asked, tree_checked}
-use Rattle.td_engine.proofs.law_lemmas.WrittenStatements.{definitions_written}
 use Rattle.td_engine.specs.Assignments.{Given, given_to, with_gift, with_gifts}
 use Rattle.td_engine.specs.Changes.{given_in}
 use Rattle.td_engine.specs.Checks.{refusal_unless_passed}
@@ -78,7 +77,7 @@ module _ (changed : List (List ℕ)) (db next : Database) (legal : IsLegal db) (
   virtual_passes v known holds apart =
       ap (refusal_unless_passed (by_key v.name))
       (same_test (world_of db) (world_of next) v
-      (unreached_values_stay changed db next (name v.name) legal.typed is_typed (definitions_written db legal.spelled) differs (name_checked db v known)
+      (unreached_values_stay changed db next (name v.name) legal.typed is_typed differs (name_checked db v known)
       (ap (λ b. b || false) apart))
       holds)
 
@@ -86,7 +85,7 @@ module _ (changed : List (List ℕ)) (db next : Database) (legal : IsLegal db) (
   constraint_passes c asked holds apart =
       ap (refusal_unless_passed (by_constraint c.name))
       (same_truth (world_of db) (world_of next) c
-      (unreached_values_stay changed db next c.tree legal.typed is_typed (definitions_written db legal.spelled) differs (tree_checked db legal c asked) apart)
+      (unreached_values_stay changed db next c.tree legal.typed is_typed differs (tree_checked db legal c asked) apart)
       holds)
 
   pub passes_elsewhere : PassesElsewhere (reached_from changed db.virtuals) next

@@ -30,7 +30,6 @@ use Rattle.td_types.specs.TypeLists.{AreKnown, DeclaredType, IsKnown, attributes
 use Rattle.td_types.specs.Types.{Attribute, Heading, IsHeading, IsType, Type', attribute_names, boolean, char, integer, pack, relation, tuple, unpack, user}
 use Rattle.td_types.proofs.Meanings.{known_attributes, pack_unpack}
 use Rattle.td_check.proofs.StaticLaws.{types_are_known}
-use Rattle.td_engine.proofs.law_lemmas.WrittenStatements.{definitions_written}
 use Rattle.td_engine.specs.Legality.{IsRuledVirtual, IsRanked, IsLegal}
 use Rattle.td_eval.proofs.law_lemmas.KnownRelvars.{unknown_parts, unnamed}
 use Rattle.td_eval.proofs.law_lemmas.TypedDatabases.{database_keeps}
@@ -201,7 +200,7 @@ virtual_admitted db n e keys h headed legal is has =
       free = free_in db n (both.0);
       virtual =
           record {
-            known = types_are_known.of_users (database_scope db) e (relation (pack h)) (database_keeps db legal.typed (definitions_written db legal.spelled)).scope_is typed;
+            known = types_are_known.of_users (database_scope db) e (relation (pack h)) (database_keeps db legal.typed).scope_is typed;
             typed = typed;
           };
       ruled = record { ranked = parts.1; keys = keys_stay_allowed h headed keys (is_held causes.KeyDeclaration (keys_allowed h keys) parts.0) };

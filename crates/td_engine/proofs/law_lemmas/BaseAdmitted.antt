@@ -7,7 +7,6 @@ use Rattle.td_check.specs.StaticTypes.{type_of}
 use Rattle.td_engine.specs.code.Carried.{IsAdmitted}
 use Rattle.td_engine.specs.Machine.{init_relation}
 use Rattle.td_engine.specs.Legality.{AreBaseKeys, IsRankedHeading, IsLegal}
-use Rattle.td_engine.proofs.law_lemmas.WrittenStatements.{definitions_written}
 use Rattle.td_engine.specs.code.Plannable.{IsWrittenIf}
 use Rattle.td_engine.proofs.law_lemmas.Admitted.{both_asked, is_held}
 use Rattle.td_engine.proofs.law_lemmas.TypedRelations.{FitsTarget, source_fits}
@@ -42,7 +41,7 @@ init_fits_target db None h t r legal written typed is =
     subst (FitsTarget db.types (relation_view h [])) (valued_is (relation_view h []) r is) (record { typed = tt; headed = refl })
 init_fits_target db (Some e) h t r legal written typed is =
     let has = value_of_with (type_of (database_scope db) e) _ t typed in
-    source_fits db (world_of db) (relation_view h []) r e has.0 (database_keeps db legal.typed (definitions_written db legal.spelled)) written has.1 is
+    source_fits db (world_of db) (relation_view h []) r e has.0 (database_keeps db legal.typed) written has.1 is
 
 -- what is asked of a base relvar that is added and holds the relation
 pub record BaseAdmitted (db : Database) (keys : List (List Text)) (r : Relation) : Type 0 where

@@ -5,7 +5,6 @@ use Rattle.td_catalog.specs.Database.{BaseRelvar, Database, NamedConstraint, Vir
 use Rattle.td_catalog.specs.Dumps.{base_line, constraint_line, dump_text, type_line, virtual_line}
 use Rattle.td_catalog.specs.TypedDatabases.{IsTypedBase}
 use Rattle.td_check.proofs.StaticLaws.{types_are_known}
-use Rattle.td_engine.proofs.law_lemmas.WrittenStatements.{definitions_written}
 use Rattle.td_engine.specs.Rebuilding.{DumpsAreRead, base_statement, constraint_statement, dump_statements, type_statement, virtual_statement}
 use Rattle.td_engine.specs.Legality.{IsRuledBase, IsLegal, IsSpelledExpression, IsSpelledIf}
 use Rattle.td_eval.proofs.law_lemmas.KnownRelvars.{fronted}
@@ -75,8 +74,8 @@ module _ (db : Database) (legal : IsLegal db) where
   -- the heading of a virtual relvar is one
   virtual_heading : (earlier later : List VirtualRelvar) (v : VirtualRelvar) → db.virtuals ≡ earlier ++ (v ∷ later) → IsHeading (pack v.heading)
   virtual_heading earlier later v e =
-      let scope = (fronts_keep db legal.typed (definitions_written db legal.spelled) earlier (v ∷ later) e).scope_is in
-      let written = one_in_place (λ (x : VirtualRelvar). IsWritten x.tree) db.virtuals earlier later v e (definitions_written db legal.spelled).virtuals in
+      let scope = (fronts_keep db legal.typed earlier (v ∷ later) e).scope_is in
+      let written = one_in_place (λ (x : VirtualRelvar). IsWritten x.tree) db.virtuals earlier later v e legal.typed.written.virtuals in
       let typed = (legal.typed.virtuals earlier later v e).typed in
       (types_are_known.of_tree (database_scope (fronted db earlier)) v.tree (relation (pack v.heading)) scope written.0 typed).0
 

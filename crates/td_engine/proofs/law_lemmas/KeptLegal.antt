@@ -17,7 +17,7 @@ use Rattle.td_engine.proofs.law_lemmas.LegalChanges.{legal_with_base, legal_with
 use Rattle.td_engine.proofs.law_lemmas.SpelledParts.{constraint_spelled, type_spelled, virtual_spelled}
 use Rattle.td_engine.proofs.law_lemmas.TypedAfter.{base_after, constraint_after, gifts_ruled, gifts_typed, type_after, virtual_after}
 use Rattle.td_engine.proofs.law_lemmas.TypedGifts.{given_typed}
-use Rattle.td_engine.proofs.law_lemmas.WrittenStatements.{definitions_written, statement_written}
+use Rattle.td_engine.proofs.law_lemmas.WrittenStatements.{statement_written}
 use Rattle.td_engine.specs.Assignments.{assigned_database, given_by, with_gifts}
 use Rattle.td_engine.specs.code.Carried.{IsAdmitted}
 use Rattle.td_engine.specs.Checks.{base_check, database_check, derived_check, first_refusal, keys_hold}
@@ -136,7 +136,7 @@ module _ (db new : Database) (text : List ℕ) (legal : IsLegal db) where
       let given = value_of_with (given_by db [] assignments) _ made.0 made.1 in
       let same : with_gifts given.0 db ≡ made.0 = valued_is (with_gifts given.0 db) made.0 given.2 in
       let gifts =
-      given_typed db legal.typed (definitions_written db legal.spelled) assignments given.0 (statement_written (assign_all assignments) is.spelled) is.checked given.1 in
+      given_typed db legal.typed assignments given.0 (statement_written (assign_all assignments) is.spelled) is.checked given.1 in
       settled_legal (with_gifts given.0 db) (ap checked_effect same ∙ made.2)
       (λ none. legal_with_gifts db legal given.0 assignments given.1 gifts (gifts_typed db given.0 legal gifts)
       (gifts_ruled db given.0 legal gifts (bases_passed (with_gifts given.0 db) none)) (passed (with_gifts given.0 db) none))

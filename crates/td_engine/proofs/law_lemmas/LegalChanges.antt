@@ -15,7 +15,6 @@ use Rattle.td_engine.proofs.law_lemmas.PassedChecks.{Passed}
 use Rattle.td_engine.proofs.law_lemmas.TestsAfterDrops.{constraints_without_constraint, constraints_without_relvar, constraints_without_type, virtuals_without_constraint, virtuals_without_relvar, virtuals_without_type}
 use Rattle.td_engine.specs.Assignments.{Given, given_by, with_gift, with_gifts}
 use Rattle.td_engine.specs.code.Gifts.{AreGifts}
-use Rattle.td_engine.proofs.law_lemmas.WrittenStatements.{definitions_written}
 use Rattle.td_engine.proofs.law_lemmas.RankChanges.{bases_later, bases_left, types_left, virtuals_later, virtuals_left}
 use Rattle.td_engine.specs.Legality.{AreOrdered, IsRuledBase, IsRuledVirtual, IsRanked, IsLegal, IsSpelledExpression, IsSpelledIf}
 use Rattle.td_eval.proofs.law_lemmas.DroppedTypes.{drops_keep_what_meets}
@@ -71,7 +70,7 @@ module _ (db : Database) (legal : IsLegal db) where
         types =
             all_given (IsTypedBase db.types) (λ (r : BaseRelvar). Meets db.types r.relation) (λ (r : BaseRelvar). Meets (with_declared d db).types r.relation)
             (λ r is. later_types_keep_what_meets db (with_declared d db) (relation_value r.relation) (relation (pack r.relation.heading)) legal.typed typed
-            (definitions_written db legal.spelled).constraints (later_entries_change_nothing.one_type db d legal.typed) is.relation (refl, is.known, is.typed))
+            (later_entries_change_nothing.one_type db d legal.typed) is.relation (refl, is.known, is.typed))
             db.bases legal.typed.bases legal.types;
         virtuals = checked.virtuals;
         constraints = checked.constraints;
@@ -185,7 +184,7 @@ module _ (db : Database) (legal : IsLegal db) where
         types =
             all_given (IsTypedBase few.types) (λ (r : BaseRelvar). Meets db.types r.relation) (λ (r : BaseRelvar). Meets few.types r.relation)
             (λ r is. drops_keep_what_meets db dropped (relation_value r.relation) (relation (pack r.relation.heading)) legal.typed typed
-            (definitions_written db legal.spelled).constraints is.relation (refl, is.known, is.typed))
+            is.relation (refl, is.known, is.typed))
             db.bases typed.bases legal.types;
         virtuals = virtuals_without_type db legal dropped typed;
         constraints =

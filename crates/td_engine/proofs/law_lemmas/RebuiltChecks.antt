@@ -5,14 +5,13 @@ use Rattle.std.specs.List.{AllByRecursion}
 use Rattle.std.specs.Option.{option_or}
 use Rattle.td_catalog.specs.Database.{Database, NamedConstraint, VirtualRelvar, database_scope}
 use Rattle.td_catalog.specs.TypedDatabases.{IsTyped, IsTypedConstraint}
-use Rattle.td_catalog.specs.WrittenDefinitions.{DefinitionsAreWritten}
 use Rattle.td_engine.proofs.law_lemmas.EachOf.{all_both, all_given}
 use Rattle.td_engine.proofs.law_lemmas.PassedChecks.{all_pass}
 use Rattle.td_engine.proofs.law_lemmas.RebuiltLists.{all_first}
 use Rattle.td_engine.proofs.law_lemmas.RebuiltParts.{IsPart}
 use Rattle.td_engine.proofs.law_lemmas.SameTests.{IsKnown, all_known, name_checked, same_test, same_truth}
 use Rattle.td_engine.proofs.law_lemmas.Settled.{bases_hold}
-use Rattle.td_engine.proofs.law_lemmas.WrittenStatements.{conditions_written, definitions_written}
+use Rattle.td_engine.proofs.law_lemmas.WrittenStatements.{conditions_written}
 use Rattle.td_engine.specs.Checks.{base_check, constraint_check, database_check, derived_check, first_refusal, refusal_unless_passed, virtual_check}
 use Rattle.td_engine.specs.Machine.{Accepted, checked_effect, ok_text, unless_refused}
 use Rattle.td_engine.specs.Refusals.{Refusal, by_constraint, by_key}
@@ -33,24 +32,13 @@ none_refuses check P says [] h = refl
 none_refuses check P says (x ∷ xs) h =
     ap (λ o. option_or o (first_refusal check xs)) (says x h.0) ∙ none_refuses check P says xs h.1
 
--- the constraint of a type is written
-abbrev IsWrittenType : DeclaredType → Type 0
-IsWrittenType d = (e : Tree) → d.constraint ≡ Some e → IsWritten e
-
 module _ (db part : Database) (legal : IsLegal db) (is : IsPart part db) (is_typed : IsTyped part) where
   -- the whole has more entries behind those of the part
   later : HasLater part db
   later = record { types = is.types; bases = is.bases; virtuals = is.virtuals; distinct = legal.typed.distinct }
 
-  definitions : DefinitionsAreWritten part
-  definitions =
-      record {
-        constraints = all_first IsWrittenType db.types part.types is.types (definitions_written db legal.spelled).constraints;
-        virtuals = all_first (λ (v : VirtualRelvar). IsWritten v.tree) db.virtuals part.virtuals is.virtuals (definitions_written db legal.spelled).virtuals;
-      }
-
   same_value : (e : Tree) → IsChecked (database_scope part) [] e → value_of (world_of part) [] e ≡ value_of (world_of db) [] e
-  same_value e checked = sym (later_entries_change_nothing.values part db [] e is_typed definitions later checked)
+  same_value e checked = sym (later_entries_change_nothing.values part db [] e is_typed later checked)
 
   -- the keys of virtual relvars hold
   virtuals_hold : AllByRecursion (HasKeysThatHold (world_of part)) part.virtuals

@@ -3,6 +3,7 @@ use Rattle.std.proofs.Common.{◌≡◌, ◌∙◌, ◌∷◌, ◌++◌, ℕ, fa
 use Rattle.std.specs.List.{AllByRecursion}
 use Rattle.td_catalog.specs.Database.{BaseRelvar, Database, NamedConstraint, VirtualRelvar, constraint_names, database_scope, relvar_names, with_virtuals}
 use Rattle.td_catalog.specs.TypedDatabases.{IsTyped, IsTypedBase, IsTypedConstraint, IsTypedVirtual}
+use Rattle.td_catalog.specs.WrittenDefinitions.{ConstraintIsWritten}
 use Rattle.td_catalog.proofs.TypedChanges.{base_relvars_keep, constraints_keep, typed_empty, types_keep, virtual_relvars_keep}
 use Rattle.td_check.specs.Scopes.{Scope}
 use Rattle.td_check.specs.StaticTypes.{type_of}
@@ -14,6 +15,7 @@ use Rattle.td_eval.proofs.code_lemmas.WorldParts.{virtual_name}
 use Rattle.td_tree.specs.Names.{IsName}
 use Rattle.td_tree.specs.Outcomes.{Valued}
 use Rattle.td_tree.specs.Trees.{Tree}
+use Rattle.td_tree.specs.WrittenTrees.{IsWritten}
 use Rattle.td_types.specs.Headings.{has_name}
 use Rattle.td_types.specs.TypeLists.{DeclaredType}
 use Rattle.td_types.specs.Types.{Type', boolean, pack, relation}
@@ -103,7 +105,8 @@ module _ (db : Database) (is_typed : IsTyped db) where
   pub typed_types : (front : List DeclaredType) → BeginsWith db.types front → IsTyped (database_of front [] [] [])
   typed_types front begins =
       of_front (λ ds. IsTyped (database_of ds [] [] [])) db.types typed_empty
-      (λ ds rest d e h. types_keep (database_of ds [] [] []) d h (is_typed.declared ds rest d e) (is_typed.constrained ds rest d e))
+      (λ ds rest d e h. types_keep (database_of ds [] [] []) d h (is_typed.declared ds rest d e) (is_typed.constrained ds rest d e)
+      (all_at ConstraintIsWritten db.types ds rest d e is_typed.written.constraints))
       front begins.0 begins.1
 
   pub typed_bases : (front : List BaseRelvar) → BeginsWith db.bases front → IsTyped (database_of db.types front [] [])
@@ -119,7 +122,8 @@ module _ (db : Database) (is_typed : IsTyped db) where
       of_front (λ vs. IsTyped (database_of db.types db.bases vs [])) db.virtuals (typed_bases db.bases (all_of db.bases))
       (λ vs rest v e h.
       virtual_relvars_keep (database_of db.types db.bases vs []) v h (all_at (λ (u : VirtualRelvar). IsName u.name) db.virtuals vs rest v e virtuals_named)
-      (ap not (virtual_is_new vs rest v e)) (virtual_there vs rest v e))
+      (ap not (virtual_is_new vs rest v e)) (virtual_there vs rest v e)
+      (all_at (λ (u : VirtualRelvar). IsWritten u.tree) db.virtuals vs rest v e is_typed.written.virtuals))
       front begins.0 begins.1
 
   pub typed_constraints : (front : List NamedConstraint) → BeginsWith db.constraints front → IsTyped (database_of db.types db.bases db.virtuals front)

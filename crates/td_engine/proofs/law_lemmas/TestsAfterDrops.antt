@@ -11,7 +11,7 @@ use Rattle.td_check.proofs.AgreementLaws.{only_one}
 use Rattle.td_check.specs.Mentions.{relvars_in, types_in}
 use Rattle.td_engine.proofs.law_lemmas.EachOf.{all_both, all_given, all_removed}
 use Rattle.td_engine.proofs.law_lemmas.SameTests.{IsKnown, all_known, name_checked, same_test, same_truth}
-use Rattle.td_engine.proofs.law_lemmas.WrittenStatements.{conditions_written, definitions_written}
+use Rattle.td_engine.proofs.law_lemmas.WrittenStatements.{conditions_written}
 use Rattle.td_engine.specs.Legality.{HasKeysThatHold, IsLegal, IsTrueOf}
 use Rattle.td_eval.proofs.law_lemmas.DistinctNames.{distinct_rest, first_apart}
 use Rattle.td_eval.proofs.law_lemmas.DroppedEntries.{drops_change_no_value}
@@ -86,7 +86,7 @@ module _ (db : Database) (legal : IsLegal db) where
     virtuals_without_constraint =
         all_given (IsKnown db) (HasKeysThatHold (world_of db)) (HasKeysThatHold (world_of (without_constraint dropped db)))
         (λ v known. same_test (world_of db) (world_of (without_constraint dropped db)) v
-        (drops_change_no_value.constraint db dropped [] (name v.name) legal.typed is_typed (definitions_written db legal.spelled) (name_checked db v known)))
+        (drops_change_no_value.constraint db dropped [] (name v.name) legal.typed is_typed (name_checked db v known)))
         db.virtuals (all_known db) legal.virtuals
 
     -- the constraints that are left
@@ -95,7 +95,7 @@ module _ (db : Database) (legal : IsLegal db) where
         all_removed (IsTrueOf (world_of (without_constraint dropped db))) (λ (c : NamedConstraint). same_name c.name dropped) db.constraints
         (all_given IsAsked (IsTrueOf (world_of db)) (IsTrueOf (world_of (without_constraint dropped db)))
         (λ c asked. same_truth (world_of db) (world_of (without_constraint dropped db)) c
-        (drops_change_no_value.constraint db dropped [] c.tree legal.typed is_typed (definitions_written db legal.spelled) (tree_checked c asked)))
+        (drops_change_no_value.constraint db dropped [] c.tree legal.typed is_typed (tree_checked c asked)))
         db.constraints all_asked legal.constraints)
 
   -- ---- one type less
@@ -106,7 +106,7 @@ module _ (db : Database) (legal : IsLegal db) where
     virtuals_without_type =
         all_given (IsKnown db) (HasKeysThatHold (world_of db)) (HasKeysThatHold (world_of (without_type dropped db)))
         (λ v known. same_test (world_of db) (world_of (without_type dropped db)) v
-        (drops_change_no_value.type db dropped [] (name v.name) legal.typed is_typed (definitions_written db legal.spelled) (name_checked db v known)
+        (drops_change_no_value.type db dropped [] (name v.name) legal.typed is_typed (name_checked db v known)
         (λ h c. absurd (contains_none h c)) (λ c. contains_none dropped c)))
         db.virtuals (all_known db) legal.virtuals
 
@@ -119,7 +119,7 @@ module _ (db : Database) (legal : IsLegal db) where
     constraints_without_type unused =
         all_given (λ (c : NamedConstraint). IsAsked c × LacksType c) (IsTrueOf (world_of db)) (IsTrueOf (world_of (without_type dropped db)))
         (λ c known. same_truth (world_of db) (world_of (without_type dropped db)) c
-        (drops_change_no_value.type db dropped [] c.tree legal.typed is_typed (definitions_written db legal.spelled) (tree_checked c known.0)
+        (drops_change_no_value.type db dropped [] c.tree legal.typed is_typed (tree_checked c known.0)
         (λ h i. absurd (contains_none h i)) (not_contained dropped (types_in c.tree) known.1)))
         db.constraints (all_both IsAsked LacksType db.constraints all_asked unused) legal.constraints
 
@@ -141,7 +141,7 @@ module _ (db : Database) (legal : IsLegal db) where
         let distinct = distinct_rest (map (λ (r : BaseRelvar). r.name) db.bases) (map virtual_name db.virtuals) legal.typed.distinct in
         all_given (λ (v : VirtualRelvar). IsKnown db v × IsOther dropped v) (HasKeysThatHold (world_of db)) (HasKeysThatHold (world_of (without_relvar dropped db)))
         (λ v known. same_test (world_of db) (world_of (without_relvar dropped db)) v
-        (drops_change_no_value.relvar db dropped [] (name v.name) legal.typed is_typed (definitions_written db legal.spelled) (name_checked db v known.0)
+        (drops_change_no_value.relvar db dropped [] (name v.name) legal.typed is_typed (name_checked db v known.0)
         (name_unmentioned v known.0 known.1)))
         few (all_both (IsKnown db) (IsOther dropped) few (all_removed (IsKnown db) test db.virtuals (all_known db)) (all_other dropped db.virtuals distinct))
         (all_removed (HasKeysThatHold (world_of db)) test db.virtuals legal.virtuals)
@@ -155,6 +155,6 @@ module _ (db : Database) (legal : IsLegal db) where
     constraints_without_relvar unused =
         all_given (λ (c : NamedConstraint). IsAsked c × LacksRelvar c) (IsTrueOf (world_of db)) (IsTrueOf (world_of (without_relvar dropped db)))
         (λ c known. same_truth (world_of db) (world_of (without_relvar dropped db)) c
-        (drops_change_no_value.relvar db dropped [] c.tree legal.typed is_typed (definitions_written db legal.spelled) (tree_checked c known.0)
+        (drops_change_no_value.relvar db dropped [] c.tree legal.typed is_typed (tree_checked c known.0)
         (not_contained dropped (relvars_in (database_scope db) c.tree) known.1)))
         db.constraints (all_both IsAsked LacksRelvar db.constraints all_asked unused) legal.constraints

@@ -19,7 +19,7 @@ use Rattle.td_engine.proofs.law_lemmas.OrderedGifts.{each_found}
 use Rattle.td_engine.proofs.law_lemmas.OrderedKeys.{base_keys_stay}
 use Rattle.td_engine.proofs.law_lemmas.Settled.{keys_are_held}
 use Rattle.td_engine.proofs.law_lemmas.TypedGifts.{value_like}
-use Rattle.td_engine.proofs.law_lemmas.WrittenStatements.{definitions_written, statement_written}
+use Rattle.td_engine.proofs.law_lemmas.WrittenStatements.{if_written, statement_written}
 use Rattle.td_engine.specs.code.Plannable.{IsWrittenIf}
 use Rattle.td_engine.specs.Assignments.{Given, given_to, of_heading, with_gift, with_gifts}
 use Rattle.td_engine.specs.code.Carried.{IsAdmitted}
@@ -68,7 +68,7 @@ module _ (db : Database) (legal : IsLegal db) where
               types = λ a there. (each a there).1;
               known = λ a there. (each a there).2;
             })
-            asked.constrained,
+            asked.constrained (if_written k names.2),
         asked.ranked,
       )
 
@@ -82,7 +82,7 @@ module _ (db : Database) (legal : IsLegal db) where
       let has = value_of_with (type_of scope e) _ t typed in
       let value = value_of_with (value_of (world_of db) [] e) (λ v. on_relation v (of_heading (relation_view h []))) r is in
       let kept : KeepsType db.types (type_of scope e) (value_of (world_of db) [] e) =
-      values_keep_types (world_of db) scope [] e (database_keeps db legal.typed (definitions_written db legal.spelled)) tt is_written in
+      values_keep_types (world_of db) scope [] e (database_keeps db legal.typed) tt is_written in
       let of_type : KeepsType db.types (Valued has.0) (Valued value.0) =
       subst (λ o. KeepsType db.types o (Valued value.0)) has.1 (subst (KeepsType db.types (type_of scope e)) value.1 kept) in
       (value_like db.types (relation_view h []) value.0 has.0 r of_type value.2).0.is_relation
@@ -117,12 +117,12 @@ module _ (db : Database) (legal : IsLegal db) where
       × IsRuledVirtual db.types (virtual_relvar n (unpack g) e (map (ordered_names (unpack g)) keys))
   virtual_after n e keys g is typed =
       let names = statement_written (trees.define_virtual n e keys) is.spelled in
-      let scope = (database_keeps db legal.typed (definitions_written db legal.spelled)).scope_is in
+      let scope = (database_keeps db legal.typed).scope_is in
       let headed : IsHeading (pack (unpack g)) =
       subst IsHeading (sym (pack_unpack g)) (types_are_known.of_tree (database_scope db) e (relation g) scope names.1.0 typed).0 in
       let asked = virtual_admitted db n e keys (unpack g) headed legal is (ap (λ o. with_value o (λ t. over_relation t Valued)) typed) in (
         virtual_relvars_keep db (virtual_relvar n (unpack g) e (map (ordered_names (unpack g)) keys)) legal.typed names.0
-            (is_held causes.NameTaken (not (knows_relvar n db)) asked.free) asked.virtual,
+            (is_held causes.NameTaken (not (knows_relvar n db)) asked.free) asked.virtual names.1,
         asked.ruled,
       )
 

@@ -7,7 +7,6 @@ use Rattle.std.specs.List.{AllByRecursion, Contains}
 use Rattle.td_algebra.specs.Operators.{difference, is_disjoint, is_subset, restriction, union}
 use Rattle.td_catalog.specs.Database.{BaseRelvar, Database, base_among, base_named, database_scope, known_base}
 use Rattle.td_catalog.specs.TypedDatabases.{IsTyped, IsTypedBase}
-use Rattle.td_catalog.specs.WrittenDefinitions.{DefinitionsAreWritten}
 use Rattle.td_check.specs.OperatorTypes.{known_or, same_heading}
 use Rattle.td_check.specs.Scopes.{Scope, entered_with, known_relvar}
 use Rattle.td_check.specs.StatementTypes.{assignment_checked, both_hold, condition_fits, in_target, is_target, settings_fit, source_fits, statement_checked, type_if_given}
@@ -116,7 +115,7 @@ module _ (ds : List DeclaredType) (so_far : Relation) where
 
 -- ---- a database
 
-module _ (db : Database) (is_typed : IsTyped db) (written : DefinitionsAreWritten db) where
+module _ (db : Database) (is_typed : IsTyped db) where
   abbrev ds : List DeclaredType
   ds = db.types
 
@@ -168,7 +167,7 @@ module _ (db : Database) (is_typed : IsTyped db) (written : DefinitionsAreWritte
     w = source_world db n so_far
 
     keeps : KeepsScope w scope
-    keeps = (source_gives db is_typed written n so_far gift).keeps
+    keeps = (source_gives db is_typed n so_far gift).keeps
 
     known : known_relvar scope n ≡ Some (known_base gift.target)
     known = known_as_base db n gift.target gift.named

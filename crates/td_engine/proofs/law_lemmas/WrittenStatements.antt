@@ -11,7 +11,6 @@ use Rattle.td_tree.specs.StatementGrammar.{AssignmentSpelling, BodySpelling, Con
 use Rattle.td_tree.specs.Trees.{Assignment, Statement, Tree, assign_all, define_base, define_constraint, define_type, define_virtual, write}
 use Rattle.td_types.specs.TypeLists.{DeclaredType}
 use Rattle.td_catalog.specs.Database.{Database, NamedConstraint, VirtualRelvar}
-use Rattle.td_catalog.specs.WrittenDefinitions.{DefinitionsAreWritten}
 use Rattle.td_engine.proofs.law_lemmas.EachOf.{all_follow}
 use Rattle.td_engine.specs.code.Plannable.{IsWrittenAssignment, IsWrittenIf}
 use Rattle.td_engine.specs.Legality.{AreSpelled, IsSpelledExpression, IsSpelledIf}
@@ -92,22 +91,12 @@ statement_written t s = spelling_written s.1 (of_tokens s.0)
 pub expression_written : (e : Tree) → IsSpelledExpression e → IsWritten e
 expression_written e s = written s.1.spelled (of_tokens s.0)
 
--- an expression that is there is written
-if_spelled : (o : Option Tree) → IsSpelledIf o → (e : Tree) → o ≡ Some e → IsWritten e
-if_spelled None h e is = absurd cc
-if_spelled (Some t) h e is = let same : t ≡ e = cc in subst IsWritten same (expression_written t h)
+-- the expression of one that is there is written
+pub if_written : (o : Option Tree) → IsWrittenIf o → (e : Tree) → o ≡ Some e → IsWritten e
+if_written None h e is = absurd cc
+if_written (Some t) h e is = let same : t ≡ e = cc in subst IsWritten same h
 
--- what tokens spell is written, in each definition of a database
-pub definitions_written : (db : Database) → AreSpelled db → DefinitionsAreWritten db
-definitions_written db spelled =
-    record {
-      constraints =
-          all_follow (λ (d : DeclaredType). IsSpelledIf d.constraint) (λ (d : DeclaredType). (e : Tree) → d.constraint ≡ Some e → IsWritten e) (λ d. if_spelled d.constraint)
-          db.types spelled.types;
-      virtuals =
-          all_follow (λ (v : VirtualRelvar). IsSpelledExpression v.tree) (λ (v : VirtualRelvar). IsWritten v.tree) (λ v. expression_written v.tree) db.virtuals spelled.virtuals;
-    }
-
+-- what tokens spell is written, in each constraint of a database
 pub conditions_written : (db : Database) → AreSpelled db → AllByRecursion (λ (c : NamedConstraint). IsWritten c.tree) db.constraints
 conditions_written db spelled =
     all_follow (λ (c : NamedConstraint). IsSpelledExpression c.tree) (λ (c : NamedConstraint). IsWritten c.tree) (λ c. expression_written c.tree) db.constraints spelled.constraints

@@ -2,7 +2,6 @@
 use Rattle.std.specs.Prelude.{◌≡◌, ℕ, List, Option, Some, None, ⊤}
 use Rattle.std.specs.List.{AllByRecursion}
 use Rattle.td_catalog.specs.Database.{Database, database_scope}
-use Rattle.td_catalog.specs.WrittenDefinitions.{DefinitionsAreWritten}
 use Rattle.td_check.specs.Scopes.{entered_with}
 use Rattle.td_check.specs.StatementTypes.{assignment_checked}
 use Rattle.td_check.specs.StaticTypes.{named_types, type_of}
@@ -20,11 +19,9 @@ use Rattle.td_tree.specs.WrittenTrees.{IsWritten, PartsGiveNames, PartsHaveTexts
 use Rattle.td_types.specs.Types.{Attribute, Type'}
 use Rattle.td_value.specs.Values.{IsRelation, Relation}
 
--- an expression that has a type where the database is known; it and the definitions there are written as tokens spell them
+-- an expression that has a type where the database is known
 pub record IsPlannable (db : Database) (e : Tree) : Type 0 where
   pub gives : GivesValues (world_of db) (database_scope db)
-  pub definitions : DefinitionsAreWritten db
-  pub written : IsWritten e
   pub typed : (t : Type') × (type_of (database_scope db) e ≡ Valued t)
 
 -- an expression that may be evaluated by a plan, where there is one
@@ -64,15 +61,11 @@ pub record IsAdmittedAssignment (db : Database) (a : Assignment) : Type 0 where
 -- an expression that a plan may evaluate where the name of a target means its relation so far
 pub record IsPlannableSource (db : Database) (target : List ℕ) (so_far : Relation) (e : Tree) : Type 0 where
   pub gives : GivesValues (source_world db target so_far) (database_scope db)
-  pub definitions : DefinitionsAreWritten db
-  pub written : IsWritten e
   pub typed : (t : Type') × (type_of (database_scope db) e ≡ Valued t)
 
 -- a condition by which tuples may be chosen of the target where its name means its relation so far
 pub record IsPlannableCondition (db : Database) (target : List ℕ) (so_far : Relation) (e : Tree) : Type 0 where
   pub gives : GivesValues (source_world db target so_far) (database_scope db)
-  pub definitions : DefinitionsAreWritten db
-  pub written : IsWritten (restriction (name target) e)
   pub typed : (t : Type') × (type_of (database_scope db) (restriction (name target) e) ≡ Valued t)
 
 abbrev pub IsPlannableConditionIf : Database → List ℕ → Relation → Option Tree → Type 0
@@ -82,9 +75,7 @@ IsPlannableConditionIf db target so_far (Some e) = IsPlannableCondition db targe
 -- settings that may be so in each of the tuples that are chosen
 pub record ArePlannableSettings (db : Database) (w : World) (chosen : Outcome Relation) (settings : NamedTrees) : Type 0 where
   pub gives : GivesValues w (database_scope db)
-  pub definitions : DefinitionsAreWritten db
   pub tuples : (r : Relation) → chosen ≡ Valued r → IsRelation r × AllByRecursion (IsTypedTuple db.types) r.body
-  pub written : AreWrittenSettings settings
   pub typed :
       (r : Relation) → chosen ≡ Valued r
       → (kinds : List Attribute) × (named_types (entered_with r.heading (database_scope db)) settings ≡ Valued kinds)

@@ -242,8 +242,8 @@ all_types ds =
 pub drops_change_no_value : DropsChangeNoValue
 drops_change_no_value =
     record {
-      relvar = λ db dropped s e is_typed other written checked absent.
-          values_depend_on_entries any (is_other dropped) db (without_relvar dropped db) s e is_typed other written checked
+      relvar = λ db dropped s e is_typed other checked absent.
+          values_depend_on_entries any (is_other dropped) db (without_relvar dropped db) s e is_typed other checked
           (record {
             types = all_types db.types;
             relvars = agree_apart db dropped is_typed other;
@@ -251,8 +251,8 @@ drops_change_no_value =
             mentioned = λ n c. refl;
             mentioned_relvars = other_of dropped (Contains (relvars_in (with_tuples (database_scope db) s) e)) absent;
           });
-      type = λ db dropped s e is_typed other written checked tuples absent.
-          values_depend_on_entries (is_other dropped) any db (without_type dropped db) s e is_typed other written checked
+      type = λ db dropped s e is_typed other checked tuples absent.
+          values_depend_on_entries (is_other dropped) any db (without_type dropped db) s e is_typed other checked
           (record {
             types = types_apart db dropped is_typed other;
             relvars = relvars_apart db dropped is_typed other;
@@ -260,8 +260,8 @@ drops_change_no_value =
             mentioned = other_of dropped (Contains (types_in e)) absent;
             mentioned_relvars = λ n c. refl;
           });
-      constraint = λ db dropped s e is_typed other written checked.
-          values_depend_on_entries any any db (without_constraint dropped db) s e is_typed other written checked
+      constraint = λ db dropped s e is_typed other checked.
+          values_depend_on_entries any any db (without_constraint dropped db) s e is_typed other checked
           (record {
             types = all_types db.types;
             relvars = record {

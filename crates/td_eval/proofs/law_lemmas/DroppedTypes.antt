@@ -73,7 +73,7 @@ module _ (ds es : List DeclaredType) (there : (n : List ℕ) (d : DeclaredType) 
 
 -- ---- one type less
 
-module _ (db : Database) (dropped : List ℕ) (is_typed : IsTyped db) (other : IsTyped (without_type dropped db)) (written : ConstraintsAreWritten db.types) where
+module _ (db : Database) (dropped : List ℕ) (is_typed : IsTyped db) (other : IsTyped (without_type dropped db)) where
   abbrev few : Database
   few = without_type dropped db
 
@@ -88,7 +88,7 @@ module _ (db : Database) (dropped : List ℕ) (is_typed : IsTyped db) (other : I
       → Selects (world_of db) n ps → AreValues ps → Selects (world_of few) n ps
   still n ps d is k gives q =
       let typed_types : AreTypedTypes db.types =
-      record { declared = is_typed.declared; constrained = is_typed.constrained; written = written } in
+      record { declared = is_typed.declared; constrained = is_typed.constrained; written = is_typed.written.constraints } in
       let typed : AreComponentsOf db.types d (components_of ps) =
       subst (λ qs. AreValues qs × AreOfTypes db.types qs d.components) (sym (packed_components ps))
       (q, parts_there few.types db.types was_there ps d.components k) in
@@ -98,9 +98,9 @@ module _ (db : Database) (dropped : List ℕ) (is_typed : IsTyped db) (other : I
       ∙ sym (selects db n (components_of ps)) ∙ gives
 
 pub drops_keep_what_meets : DropsKeepWhatMeets
-drops_keep_what_meets db dropped v t is_typed other written p h met =
+drops_keep_what_meets db dropped v t is_typed other p h met =
     let few = without_type dropped db in
-    let typed = typed_there few.types db.types (was_there db dropped is_typed other written) v t h in
+    let typed = typed_there few.types db.types (was_there db dropped is_typed other) v t h in
     (selectors_give_what_meets few v t other h).0
-    (each few.types (Selects (world_of db)) OfValues (Selects (world_of few)) (still db dropped is_typed other written) v t h
+    (each few.types (Selects (world_of db)) OfValues (Selects (world_of few)) (still db dropped is_typed other) v t h
     ((selectors_give_what_meets db v t is_typed typed).1 met) (of_values v p))

@@ -92,9 +92,9 @@ module _ (first second : Database) (later : HasLater first second) where
       known_name first n
       (ap is_some (ap (λ vs. known_relvar (database_scope (fronted first vs)) n) e ∙ known_in_more first front rest n r is))
 
-module _ (first second : Database) (later : HasLater first second) (is_typed : IsTyped first) (written : DefinitionsAreWritten first) where
+module _ (first second : Database) (later : HasLater first second) (is_typed : IsTyped first) where
   typed_types : AreTypedTypes first.types
-  typed_types = record { declared = is_typed.declared; constrained = is_typed.constrained; written = written.constraints }
+  typed_types = record { declared = is_typed.declared; constrained = is_typed.constrained; written = is_typed.written.constraints }
 
   -- the relvars of the first have the same values in both, with the same virtual relvars
   abbrev AreAlike : List VirtualRelvar → Type 0
@@ -134,7 +134,7 @@ module _ (first second : Database) (later : HasLater first second) (is_typed : I
       checked =
           record {
             tuples = tt;
-            written = all_at (λ (u : VirtualRelvar). IsWritten u.tree) front v rest (subst (AllByRecursion (λ (u : VirtualRelvar). IsWritten u.tree)) e written.virtuals);
+            written = all_at (λ (u : VirtualRelvar). IsWritten u.tree) front v rest (subst (AllByRecursion (λ (u : VirtualRelvar). IsWritten u.tree)) e is_typed.written.virtuals);
             typed = (types.relation (pack v.heading), (is_typed.virtuals front rest v e).typed);
           }
 
@@ -142,7 +142,7 @@ module _ (first second : Database) (later : HasLater first second) (is_typed : I
       value =
           same_in_more (database_scope (fronted first front)) (world_of (fronted first front)) (world_of (fronted second front))
           (has_more front front names (λ m u is. is) (λ m r is. alike m (names m r is))) [] v.tree
-          (fronts_keep first is_typed written front (v ∷ rest) e) checked
+          (fronts_keep first is_typed front (v ∷ rest) e) checked
 
   all_alike : AreAlike first.virtuals
   all_alike = of_all AreAlike first.virtuals none_alike next_alike
@@ -158,7 +158,7 @@ module _ (first second : Database) (later : HasLater first second) (is_typed : I
   values_stay s e checked =
       same_in_more (database_scope first) (world_of first) (world_of second)
       (has_more first.virtuals second.virtuals (λ n r is. known_name first n (ap is_some is)) (named_later first second later) relvars_stay)
-      s e (database_keeps first is_typed written) checked
+      s e (database_keeps first is_typed) checked
 
 -- ---- one entry more
 
@@ -212,7 +212,7 @@ module _ (db : Database) (is_typed : IsTyped db) where
 pub later_entries_change_nothing : LaterEntriesChangeNothing
 later_entries_change_nothing =
     record {
-      values = λ first second s e is_typed written later checked. values_stay first second later is_typed written s e checked;
+      values = λ first second s e is_typed later checked. values_stay first second later is_typed s e checked;
       one_type = λ db d is_typed. one_type db is_typed d;
       one_base = λ db r is_typed new. one_base db is_typed r new;
       one_virtual = λ db v is_typed new. one_virtual db is_typed v new;

@@ -88,8 +88,8 @@ types_keep ds h =
       constraints_named = tt;
       constraints_distinct = refl;
       constraints = tt;
+      written = record { constraints = h.written; virtuals = tt };
     })
-    (record { constraints = h.written; virtuals = tt })
 
 -- ---- selectors
 
@@ -315,13 +315,13 @@ stays all (x ∷ xs) s n f is = stays all xs (with_selector all s x) n f (rw (wi
 
 -- ---- the types behind a type
 
-pub typed_types : (db : Database) → IsTyped db → ConstraintsAreWritten db.types → AreTypedTypes db.types
-typed_types db is written = record { declared = is.declared; constrained = is.constrained; written = written }
+pub typed_types : (db : Database) → IsTyped db → AreTypedTypes db.types
+typed_types db is = record { declared = is.declared; constrained = is.constrained; written = is.written.constraints }
 
 pub cut_types_keep_constraints : CutTypesKeepConstraints
-cut_types_keep_constraints db earlier later d vs is written e h =
+cut_types_keep_constraints db earlier later d vs is e h =
     let whole : AreTypedTypes ((earlier ++ (d ∷ [])) ++ later) =
-    subst AreTypedTypes (e ∙ sym (append_assoc earlier (d ∷ []) later)) (typed_types db is written) in
+    subst AreTypedTypes (e ∙ sym (append_assoc earlier (d ∷ []) later)) (typed_types db is) in
     let upto : AreTypedTypes (earlier ++ (d ∷ [])) = first_typed (earlier ++ (d ∷ [])) later whole in
     let before_it : AreTypedTypes earlier = first_typed earlier (d ∷ []) upto in
     let selects : SelectThose earlier (selectors_of db.types earlier) = all_select earlier before_it db.types (d ∷ later) e in

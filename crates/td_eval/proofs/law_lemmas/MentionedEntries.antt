@@ -29,7 +29,7 @@ use Rattle.td_tree.specs.WrittenTrees.{IsWritten}
 use Rattle.td_value.specs.Values.{relation_value}
 
 module _ (among seen : List ℕ → Bool) (first second : Database) (is_typed : IsTyped first) (other : IsTyped second)
-    (written : DefinitionsAreWritten first) (agree_types : AgreeOnTypes among first.types second.types)
+    (agree_types : AgreeOnTypes among first.types second.types)
     (agree : AgreeOnRelvars among seen first second) where
   -- the selectors of types that both have
   select_alike : (w v : World) → w.selector ≡ selectors_of first.types first.types → v.selector ≡ selectors_of second.types second.types
@@ -37,7 +37,7 @@ module _ (among seen : List ℕ → Bool) (first second : Database) (is_typed : 
   select_alike w v e f n m d vs is h =
       selected_by v (selectors_of second.types second.types) n vs f
       ∙ all_alike among first.types second.types
-      (record { declared = is_typed.declared; constrained = is_typed.constrained; written = written.constraints })
+      (record { declared = is_typed.declared; constrained = is_typed.constrained; written = is_typed.written.constraints })
       other.declared other.constrained agree_types n d m is vs h
       ∙ sym (selected_by w (selectors_of first.types first.types) n vs e)
 
@@ -149,7 +149,7 @@ module _ (among seen : List ℕ → Bool) (first second : Database) (is_typed : 
     checked =
         record {
           tuples = tt;
-          written = all_at (λ (x : VirtualRelvar). IsWritten x.tree) front v rest (subst (AllByRecursion (λ (x : VirtualRelvar). IsWritten x.tree)) e written.virtuals);
+          written = all_at (λ (x : VirtualRelvar). IsWritten x.tree) front v rest (subst (AllByRecursion (λ (x : VirtualRelvar). IsWritten x.tree)) e is_typed.written.virtuals);
           typed = (its_type, typed_here);
         }
 
@@ -157,7 +157,7 @@ module _ (among seen : List ℕ → Bool) (first second : Database) (is_typed : 
     value_alike =
         ap (value_of (world_of (fronted second place.0)) []) tree
         ∙ values_depend_on_mentions among here (world_of (fronted first front)) (world_of (fronted second place.0)) [] v.tree
-        (fronts_keep first is_typed written front (v ∷ rest) e) checked
+        (fronts_keep first is_typed front (v ∷ rest) e) checked
         (record {
           known = record {
             entered = refl;
@@ -220,8 +220,8 @@ module _ (among seen : List ℕ → Bool) (first second : Database) (is_typed : 
   relvars_alike = of_all AreAlike first.virtuals none_alike next_alike
 
 pub values_depend_on_entries : ValuesDependOnEntries
-values_depend_on_entries among seen first second s e is_typed other written checked agree =
-    values_depend_on_mentions among (database_scope first) (world_of first) (world_of second) s e (database_keeps first is_typed written) checked
+values_depend_on_entries among seen first second s e is_typed other checked agree =
+    values_depend_on_mentions among (database_scope first) (world_of first) (world_of second) s e (database_keeps first is_typed) checked
     (record {
       known = record {
         entered = refl;
@@ -231,13 +231,13 @@ values_depend_on_entries among seen first second s e is_typed other written chec
       };
       types = λ n c. (
         agree.mentioned n c,
-        select_alike among seen first second is_typed other written agree.types agree.relvars (world_of first) (world_of second)
+        select_alike among seen first second is_typed other agree.types agree.relvars (world_of first) (world_of second)
             (world_selectors first) (world_selectors second) n (agree.mentioned n c),
       );
       relvars = λ n c. (
         subst (λ (scope : Scope). AgreeAt among (database_scope first) scope n) (sym (world_scope second))
-            (seen_known among seen first second is_typed other written agree.types agree.relvars n (agree.mentioned_relvars n c)),
-        relvars_alike among seen first second is_typed other written agree.types agree.relvars n (agree.mentioned_relvars n c)
+            (seen_known among seen first second is_typed other agree.types agree.relvars n (agree.mentioned_relvars n c)),
+        relvars_alike among seen first second is_typed other agree.types agree.relvars n (agree.mentioned_relvars n c)
             (mentions_are_known.relvars (with_tuples (database_scope first) s) e n c),
       );
     })

@@ -76,7 +76,7 @@ mutual
   rows_of_values g (row fs rs) p = (fields_of_values fs p.0.0, rows_of_values g rs p.1)
 
 pub later_types_keep_what_meets : LaterTypesKeepWhatMeets
-later_types_keep_what_meets first second v t is_typed wider written later p h met =
+later_types_keep_what_meets first second v t is_typed wider later p h met =
     (selectors_give_what_meets second v t wider
     (subst (λ ds. HasType ds v t) (sym later.types.1) (kept first.types later.types.0 v t h))).0
     (each first.types (Selects (world_of first)) OfValues (Selects (world_of second)) still v t h
@@ -87,7 +87,7 @@ later_types_keep_what_meets first second v t is_typed wider written later p h me
         record {
           declared = is_typed.declared;
           constrained = is_typed.constrained;
-          written = written;
+          written = is_typed.written.constraints;
         }
 
     still : (n : List ℕ) (ps : Parts) (d : DeclaredType) → declared_at n first.types ≡ Some d

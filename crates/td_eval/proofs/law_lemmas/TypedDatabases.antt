@@ -328,7 +328,7 @@ module _ (w : World) (scope : Scope) (v : VirtualRelvar) (k : KeepsScope w scope
 
 -- ---- databases
 
-module _ (db : Database) (is_typed : IsTyped db) (written : DefinitionsAreWritten db) where
+module _ (db : Database) (is_typed : IsTyped db) where
   abbrev FrontKeeps : List VirtualRelvar → Type 0
   FrontKeeps front = KeepsScope (world_of (fronted db front)) (database_scope (fronted db front))
 
@@ -351,7 +351,7 @@ module _ (db : Database) (is_typed : IsTyped db) (written : DefinitionsAreWritte
               subst (λ (q : KnownRelvar). KeepsType db.types (Valued (types.relation (pack q.heading))) (Valued (relation_value b.0.relation))) b.2
                   (b.3.relation, (refl, b.3.known, b.3.typed)),
             );
-        selectors = (all_selectors db.types is_typed.declared is_typed.constrained written.constraints).found;
+        selectors = (all_selectors db.types is_typed.declared is_typed.constrained is_typed.written.constraints).found;
       }
     where
       of_bases : (n : List ℕ) (r : KnownRelvar) → relvar_in n (map known_base db.bases ++ []) ≡ Some r → relvar_in n (map known_base db.bases) ≡ Some r
@@ -362,7 +362,7 @@ module _ (db : Database) (is_typed : IsTyped db) (written : DefinitionsAreWritte
       subst (λ w. KeepsScope w (database_scope (fronted db (front ++ (v ∷ []))))) (sym (one_more_world db front v))
       (subst (KeepsScope (with_virtual_value (world_of (fronted db front)) v)) (sym (one_more_scope db front v))
       (one_more_virtual (world_of (fronted db front)) (database_scope (fronted db front)) v k refl (unknown_lacks (fronted db front))
-      (is_typed.virtuals front rest v e) (all_at (λ (u : VirtualRelvar). IsWritten u.tree) front v rest (subst (AllByRecursion (λ (u : VirtualRelvar). IsWritten u.tree)) e written.virtuals))))
+      (is_typed.virtuals front rest v e) (all_at (λ (u : VirtualRelvar). IsWritten u.tree) front v rest (subst (AllByRecursion (λ (u : VirtualRelvar). IsWritten u.tree)) e is_typed.written.virtuals))))
 
   -- where the first virtual relvars alone are known
   pub fronts_keep : (front rest : List VirtualRelvar) → db.virtuals ≡ front ++ rest → FrontKeeps front
@@ -372,5 +372,5 @@ module _ (db : Database) (is_typed : IsTyped db) (written : DefinitionsAreWritte
   database_keeps = fronts_keep db.virtuals [] (sym (append-nil db.virtuals))
 
 pub typed_databases_keep_scopes : TypedDatabasesKeepScopes
-typed_databases_keep_scopes db is_typed written =
-    subst (KeepsScope (world_of db)) (sym (world_scope db)) (database_keeps db is_typed written)
+typed_databases_keep_scopes db is_typed =
+    subst (KeepsScope (world_of db)) (sym (world_scope db)) (database_keeps db is_typed)

@@ -194,8 +194,8 @@ module _ (changed : List (List ℕ)) (first second : Database) (is_typed : IsTyp
       }
 
 pub unreached_values_stay : UnreachedValuesStay
-unreached_values_stay changed first second e is_typed other written differs checked apart =
-    values_depend_on_entries any (is_apart changed first) first second [] e is_typed other written checked
+unreached_values_stay changed first second e is_typed other differs checked apart =
+    values_depend_on_entries any (is_apart changed first) first second [] e is_typed other checked
     (record {
       types = all_types first.types second.types differs.types;
       relvars = agree changed first second is_typed differs;

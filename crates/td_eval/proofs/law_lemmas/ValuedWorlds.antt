@@ -98,7 +98,7 @@ module _ (db : Database) (keeps : KeepsScope (world_of db) (world_of db).scope) 
   gives = record { keeps = keeps; relvars = base_found; selectors = free_selected }
 
 pub typed_databases_give_values : TypedDatabasesGiveValues
-typed_databases_give_values db is_typed written = gives db (typed_databases_keep_scopes db is_typed written)
+typed_databases_give_values db is_typed = gives db (typed_databases_keep_scopes db is_typed)
 
 pub other_relations_give_values : OtherRelationsGiveValues
 other_relations_give_values db n b r values is_base valid typed headed =

@@ -34,8 +34,8 @@ abbrev pub AgreeBeside : ℕ → ℕ → Slots → Slots → Type 0
 AgreeBeside k n s t = (j : ℕ) → (j < k) ⊎ (n ≤ j) → s j ≡ t j
 
 -- plans that name no slot from the first number up to the second
-abbrev pub AreApart : ℕ → ℕ → PlanTrees → Type 0
-AreApart k n ps = k < n → (w : World) (s t : Slots) → AgreeBeside k n s t → plan_values w s ps ≡ plan_values w t ps
+abbrev pub AreWithinReach : ℕ → ℕ → PlanTrees → Type 0
+AreWithinReach k n ps = k < n → (w : World) (s t : Slots) → AgreeBeside k n s t → plan_values w s ps ≡ plan_values w t ps
 
 -- ---- parts whose answers are kept, by their places
 
@@ -66,7 +66,7 @@ abbrev mutual
   IsSound ps (p.If' _ condition _ consequent _ alternative) =
       IsSound ps condition × IsSound ps consequent × IsSound ps alternative
   IsSound ps (p.Bound' slot reach _ items _ result) =
-      IsSoundRow ps items × IsSound ps result × AreApart reach slot (steps_row items)
+      IsSoundRow ps items × IsSound ps result × AreWithinReach reach slot (steps_row items)
   IsSound ps (p.Once' place reach _ part) = IsPart ps place reach (step_view part) × IsSound ps part
 
   pub IsSoundRow : Parts → {m : _} → Row_of-Step m → Type 0

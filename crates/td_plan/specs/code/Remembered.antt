@@ -2,7 +2,7 @@
 use Rattle.std.specs.Prelude.{◌≡◌, ◌⊎◌, ◌<◌, ◌≤◌, ℕ, suc, List, [], ◌∷◌, ⊤}
 use Rattle.std.specs.List.{Contains}
 use Rattle.td_plan.specs.declared.plan.step.Step.{Step}
-use Rattle.td_plan.specs.code.Memos.{AreApart, AreOn, AreSound, IsOn, IsSound, Parts, Placed}
+use Rattle.td_plan.specs.code.Memos.{AreWithinReach, AreOn, AreSound, IsOn, IsSound, Parts, Placed}
 use Rattle.td_plan.specs.code.StepViews.{step_view, steps_view}
 
 -- ---- slots that are named
@@ -114,5 +114,5 @@ pub record AreRememberedBound (a b : ℕ) (slot reach : ℕ) (names : List ℕ) 
   pub value : step_view new ≡ step_view old
   pub views : steps_view news ≡ steps_view olds
   pub on : (inner : List ℕ) × IsOn inner (step_view old) × AreOn inner (steps_view olds) × AreAmongBefore slot inner names
-  pub apart : AreApart reach slot (steps_view olds)
+  pub apart : AreWithinReach reach slot (steps_view olds)
   pub placed : Placed a b (λ ps. AreSound ps news × IsSound ps new)

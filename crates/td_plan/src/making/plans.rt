@@ -1,7 +1,8 @@
 //! The plans of expressions.
 ghost use Rattle.std.specs.Prelude.{◌≡◌, IfOk, IsOkAnd};
 ghost use Rattle.td_plan.specs.code.Planners.{IsPlanner, catalog_database};
-ghost use Rattle.td_plan.specs.PlansOf.{ArePlannedSettings, IsPlanOfTyped, scope_in};
+ghost use Rattle.td_plan.specs.PlansOf.{ArePlannedSettings, IsPlanIfTyped, IsPlanOfTyped};
+ghost use Rattle.td_plan.specs.PlansOf.{scope_in};
 ghost use Rattle.td_plan.specs.code.PlanViews.{plan_view};
 ghost use Rattle.td_plan.specs.code.StepViews.{step_view};
 ghost use Rattle.td_tree.specs.code.TreeViews.{named_view, tree_view};
@@ -63,8 +64,9 @@ fn plan_by(
 /// scope, it has the expression's value, or is refused by the same causes.
 pub fn plan<B: Body>(alloc: Global, env: &Env<'_, B>, expr: &Expr) -> Result<Plan, AllocError>
     ensures { IfOk result
-        (λ p. IsPlanOfTyped (scope_in env.now) (plan_view p) (tree_view expr.now)) }
+        (λ p. IsPlanIfTyped (scope_in env.now) (plan_view p) (tree_view expr.now)) }
 {
+    expr.reveal();
     let mut names = Vec::new(alloc);
     add_names(alloc, env.catalog, expr, &mut names)?;
     let planner = planner_in(alloc, env)?;

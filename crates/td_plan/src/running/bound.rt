@@ -172,7 +172,7 @@ where
     /// The loop where the tuples that items have are in scope in slots from this one on, if they
     /// all have one.
     #[inline(never)]
-    fn behind(
+    fn loop_behind(
         &self,
         memo: &mut Memo,
         inside: &Inside,
@@ -205,7 +205,7 @@ where
     /// The loop where the items of a WITH are in scope already, and what stands behind them, if
     /// the items name no tuple that the loop goes over, and there are such tuples.
     #[inline(never)]
-    pub(crate) fn hoisted<'s>(
+    pub(crate) fn hoisted_loop<'s>(
         &self,
         memo: &mut Memo,
         inside: &Inside,
@@ -239,7 +239,7 @@ where
                 if *slot <= inside.slot {
                     return None;
                 }
-                let Some(inner) = self.behind(memo, inside, *slot, items) else {
+                let Some(inner) = self.loop_behind(memo, inside, *slot, items) else {
                     return None;
                 };
                 Some(Hoisted {

@@ -236,7 +236,7 @@ where
             (Answers (λ m. m.items) result (truths_in (A.world self.now.around.now)
             (slots_in inside.now.outer.items) inside.now.slot condition.now rows.now)) }
     {
-        match self.hoisted(memo, inside, rows, condition) {
+        match self.hoisted_loop(memo, inside, rows, condition) {
             Some(hoisted) => self.truths_asked(memo, &hoisted.inside, rows, hoisted.step),
             None => self.truths_asked(memo, inside, rows, condition),
         }
@@ -287,7 +287,7 @@ where
             (A.world self.now.around.now) (slots_in inside.now.outer.items) inside.now.slot
             step.now) rows.now))) }
     {
-        match self.hoisted(memo, inside, rows, step) {
+        match self.hoisted_loop(memo, inside, rows, step) {
             Some(hoisted) => self.values_by_row(memo, &hoisted.inside, rows, hoisted.step),
             None => self.values_by_row(memo, inside, rows, step),
         }
@@ -343,7 +343,7 @@ where
             (A.world self.now.around.now) (slots_in inside.now.outer.items) inside.now.slot
             step.now) rows.now)) }
     {
-        match self.hoisted(memo, inside, rows, step) {
+        match self.hoisted_loop(memo, inside, rows, step) {
             Some(hoisted) => self.column_by_row(memo, &hoisted.inside, rows, ty, hoisted.step),
             None => self.column_by_row(memo, inside, rows, ty, step),
         }

@@ -1,6 +1,5 @@
 //! The values of expressions by their plans.
 ghost use Rattle.std.specs.Prelude.{◌≡◌, IfOk, List, map};
-ghost use Rattle.td_catalog.specs.WrittenDefinitions.{DefinitionsAreWritten};
 ghost use Rattle.td_check.specs.Scopes.{Scope};
 ghost use Rattle.td_eval.specs.code.Sights.{tuples_in_hand, world_in};
 ghost use Rattle.td_eval.specs.UnfailingValues.{GivesValues};
@@ -90,7 +89,6 @@ pub(crate) fn run_valued<B: Body>(
     env: &Env<'_, B>,
     plan: &Plan,
 ) -> Result<Value, Fault>
-    requires { DefinitionsAreWritten env.now.catalog.now.database }
     ensures { (scope : Scope) (outcome : World → List Tuple → Outcome Val)
         → IsPlanFor scope (plan_view plan.now) outcome
         → GivesValues (world_in env.now) (outermost scope)

@@ -1,6 +1,5 @@
 //! The virtual relvars that expressions may need, each of them evaluated once.
 ghost use Rattle.std.specs.Prelude.{◌≡◌, IfOk, IfSome};
-ghost use Rattle.td_catalog.specs.WrittenDefinitions.{DefinitionsAreWritten};
 ghost use Rattle.td_eval.specs.DatabaseWorlds.{world_of};
 ghost use Rattle.td_eval.specs.code.Sights.{world_in};
 ghost use Rattle.td_eval.specs.Worlds.{known_outcome};
@@ -108,8 +107,7 @@ fn relvar_by_plan<'a, B: Body>(
     name: &Name,
     valued: &[ValuedRelvar],
 ) -> Result<Value, Fault>
-    requires written { DefinitionsAreWritten catalog.now.database }
-    requires valued { AreValued (world_of catalog.now.database) valued.now }
+    requires { AreValued (world_of catalog.now.database) valued.now }
     ensures { Answers (λ v. v) result
         (known_outcome ((world_of catalog.now.database).relvar name.now)) }
 {
@@ -155,7 +153,6 @@ fn valued_relvars<B: Body>(
     env: &Env<'_, B>,
     mut marks: Vec<bool>,
 ) -> Result<Vec<ValuedRelvar>, AllocError>
-    requires { DefinitionsAreWritten env.now.catalog.now.database }
     ensures { IfOk result (λ valued. AreValued (world_in env.now) valued.items) }
 {
     mark_reached(alloc, env.catalog, &mut marks)?;
@@ -177,7 +174,6 @@ pub(crate) fn virtual_relvars<B: Body>(
     env: &Env<'_, B>,
     names: &[Name],
 ) -> Result<Vec<ValuedRelvar>, AllocError>
-    requires { DefinitionsAreWritten env.now.catalog.now.database }
     ensures { IfOk result (λ valued. AreValued (world_in env.now) valued.items) }
 {
     let mut marks = Vec::new(alloc);

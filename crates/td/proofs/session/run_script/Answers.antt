@@ -1,7 +1,7 @@
 use Rattle.std.proofs.Common.{sym, subst}
 use Rattle.std.specs.Prelude.{IfErr, IfOk, IsTrue}
 use Rattle.td.proofs.Written.{err_map, run_answers, run_limit, run_memory, run_read, run_write}
-use Rattle.td.specs.Sessions.{HasAnswered, HasBegun, HasBegunCut, OfSession, status_of}
+use Rattle.td.specs.Sessions.{HasAnswered, HasBegunCut, HasBegunTo, IsUnderWay, OfSession, status_of}
 use Rattle.td.specs.declared.line.Mode.{Mode}
 use Rattle.td_engine.specs.Faults.{IfMemory, IfRead, IfReadLimit, IfWrite}
 use Rattle.td_engine.specs.Scripts.{OfBroken, OfFront, OfTooMuch, script_limit}
@@ -28,8 +28,8 @@ returns-in-Run-clause-memory g c =
     let before = g.R.Source.left c.args.reader.now in
     let after = g.R.Source.left c.run.new.reader in
     subst
-    (λ (mode : Mode). IfErr c.run.result (IfMemory (λ done. OfFront done before after (λ script. HasBegun mode (run_of c.args.stop (standing old told) script)
-    done taken))))
+    (λ (mode : Mode). IfErr c.run.result (IfMemory (λ done. OfFront done before after (λ script. HasBegunTo mode (run_of c.args.stop (standing old told) script)
+    done (standing c.run.new.engine taken)))))
     (sym c.in-Run.is)
     (err_map _ _ (run_memory c.args.stop old c.run.new.engine told taken c.run.ensures.legal before after) c.run.result c.run.ensures.memory)
 
@@ -42,7 +42,7 @@ returns-in-Run-clause-read g c =
     let after = g.R.Source.left c.run.new.reader in
     let broken = IsTrue (g.R.Source.is_broken c.run.new.reader) in
     subst
-    (λ (mode : Mode). IfErr c.run.result (IfRead (λ done. broken × OfBroken done before after (λ script. HasBegun mode
+    (λ (mode : Mode). IfErr c.run.result (IfRead (λ done. broken × OfBroken done before after (λ script. IsUnderWay mode
     (run_of c.args.stop (standing old told) script) done taken))))
     (sym c.in-Run.is)
     (err_map _ _ (run_read c.args.stop old c.run.new.engine told taken c.run.ensures.legal before after broken) c.run.result c.run.ensures.read)
@@ -55,7 +55,7 @@ returns-in-Run-clause-too_long g c =
     let before = g.R.Source.left c.args.reader.now in
     let after = g.R.Source.left c.run.new.reader in
     subst
-    (λ (mode : Mode). IfErr c.run.result (IfReadLimit (λ done. OfTooMuch script_limit done before after (λ script. HasBegun mode
+    (λ (mode : Mode). IfErr c.run.result (IfReadLimit (λ done. OfTooMuch script_limit done before after (λ script. IsUnderWay mode
     (run_of c.args.stop (standing old told) script) done taken))))
     (sym c.in-Run.is)
     (err_map _ _ (run_limit c.args.stop old c.run.new.engine told taken c.run.ensures.legal before after) c.run.result c.run.ensures.too_long)
@@ -92,8 +92,8 @@ returns-in-Dump-clause-memory g c =
     let before = g.R.Source.left c.args.reader.now in
     let after = g.R.Source.left c.dump.new.reader in
     subst
-    (λ (mode : Mode). IfErr c.dump.result (IfMemory (λ done. OfFront done before after (λ script. HasBegun mode
-    (run_of c.args.stop (standing c.args.engine.now told) script) done taken))))
+    (λ (mode : Mode). IfErr c.dump.result (IfMemory (λ done. OfFront done before after (λ script. HasBegunTo mode
+    (run_of c.args.stop (standing c.args.engine.now told) script) done (standing c.dump.new.engine taken)))))
     (sym c.in-Dump.is) c.dump.ensures.memory
 
 pub returns-in-Dump-clause-read : goal.returns-in-Dump-clause-read
@@ -104,7 +104,7 @@ returns-in-Dump-clause-read g c =
     let after = g.R.Source.left c.dump.new.reader in
     subst
     (λ (mode : Mode). IfErr c.dump.result (IfRead (λ done. IsTrue (g.R.Source.is_broken c.dump.new.reader)
-    × OfBroken done before after (λ script. HasBegun mode (run_of c.args.stop (standing c.args.engine.now told) script) done taken))))
+    × OfBroken done before after (λ script. IsUnderWay mode (run_of c.args.stop (standing c.args.engine.now told) script) done taken))))
     (sym c.in-Dump.is) c.dump.ensures.read
 
 pub returns-in-Dump-clause-too_long : goal.returns-in-Dump-clause-too_long
@@ -114,7 +114,7 @@ returns-in-Dump-clause-too_long g c =
     let before = g.R.Source.left c.args.reader.now in
     let after = g.R.Source.left c.dump.new.reader in
     subst
-    (λ (mode : Mode). IfErr c.dump.result (IfReadLimit (λ done. OfTooMuch script_limit done before after (λ script. HasBegun mode
+    (λ (mode : Mode). IfErr c.dump.result (IfReadLimit (λ done. OfTooMuch script_limit done before after (λ script. IsUnderWay mode
     (run_of c.args.stop (standing c.args.engine.now told) script) done taken))))
     (sym c.in-Dump.is) c.dump.ensures.too_long
 

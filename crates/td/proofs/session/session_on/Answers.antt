@@ -1,7 +1,8 @@
 use Rattle.std.proofs.Common.{ℕ, List, Option, subst, sym}
 use Rattle.std.specs.Prelude.{IsTrue}
 use Rattle.td.proofs.session.session_on.Goals as goal
-use Rattle.td.specs.Sessions.{HasAnswered, HasBegun, HasBegunCut, OfSession, status_of}
+use Rattle.td.proofs.Written.{begun_alone}
+use Rattle.td.specs.Sessions.{HasAnswered, HasBegunCut, HasBegunTo, IsUnderWay, OfSession, status_of}
 use Rattle.td_engine.specs.Faults.{IfMemory, IfRead, IfReadLimit, IfWrite}
 use Rattle.td_engine.specs.Machine.{State, empty_state}
 use Rattle.td_engine.specs.Scripts.{OfBroken, OfFront, OfTooMuch, script_limit}
@@ -25,9 +26,11 @@ returns-in-Err-clause-memory g c =
     let taken : Option (List ℕ) = g.W.Sink.taken c.run_script-answered.new.writer in
     let before : Option (List ℕ) = g.R.Source.left c.args.reader.now in
     let after : Option (List ℕ) = g.R.Source.left c.run_script-answered.new.reader in
-    subst
-    (λ (s : State). IfMemory (λ done. OfFront done before after (λ script. HasBegun c.args.mode (run_of c.args.stop (standing s told) script) done taken)) c.in-Err.fault)
-    c.new-engine.ensures c.in-Err.ensures.memory
+    begun_alone c.args.mode c.args.stop empty_state c.run_script-answered.new.engine told taken before after c.in-Err.fault
+    (subst
+    (λ (s : State). IfMemory (λ done. OfFront done before after (λ script. HasBegunTo c.args.mode (run_of c.args.stop (standing s told) script) done (standing c.run_script-answered.new.engine taken)))
+    c.in-Err.fault)
+    c.new-engine.ensures c.in-Err.ensures.memory)
 
 pub returns-in-Err-clause-read : goal.returns-in-Err-clause-read
 returns-in-Err-clause-read g c =
@@ -37,7 +40,7 @@ returns-in-Err-clause-read g c =
     let after : Option (List ℕ) = g.R.Source.left c.run_script-answered.new.reader in
     subst
     (λ (s : State). IfRead (λ done. IsTrue (g.R.Source.is_broken c.run_script-answered.new.reader)
-    × OfBroken done before after (λ script. HasBegun c.args.mode (run_of c.args.stop (standing s told) script) done taken)) c.in-Err.fault)
+    × OfBroken done before after (λ script. IsUnderWay c.args.mode (run_of c.args.stop (standing s told) script) done taken)) c.in-Err.fault)
     c.new-engine.ensures c.in-Err.ensures.read
 
 pub returns-in-Err-clause-too_long : goal.returns-in-Err-clause-too_long
@@ -47,7 +50,7 @@ returns-in-Err-clause-too_long g c =
     let before : Option (List ℕ) = g.R.Source.left c.args.reader.now in
     let after : Option (List ℕ) = g.R.Source.left c.run_script-answered.new.reader in
     subst
-    (λ (s : State). IfReadLimit (λ done. OfTooMuch script_limit done before after (λ script. HasBegun c.args.mode (run_of c.args.stop (standing s told) script) done taken))
+    (λ (s : State). IfReadLimit (λ done. OfTooMuch script_limit done before after (λ script. IsUnderWay c.args.mode (run_of c.args.stop (standing s told) script) done taken))
     c.in-Err.fault)
     c.new-engine.ensures c.in-Err.ensures.too_long
 

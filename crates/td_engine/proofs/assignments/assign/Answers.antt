@@ -1,7 +1,7 @@
 use Rattle.std.proofs.Common.{[], ◌≡◌, map, subst, sym}
 use Rattle.td_engine.proofs.code_lemmas.GivenChanges.{all_typed}
 use Rattle.td_engine.proofs.law_lemmas.TypedGifts.{given_typed}
-use Rattle.td_engine.proofs.law_lemmas.WrittenStatements.{definitions_written, statement_written}
+use Rattle.td_engine.proofs.law_lemmas.WrittenStatements.{statement_written}
 use Rattle.td_engine.specs.Assignments.{given_by}
 use Rattle.td_engine.specs.code.Carried.{IsAdmitted}
 use Rattle.td_engine.specs.Changes.{given_in}
@@ -19,7 +19,7 @@ give_all-requires-clause-typed g c =
     let db = c.args.catalog.now.database in
     let legal = c.requires.legal in
     let es = c.in-Ok.given.entries in
-    given_typed db legal.typed (definitions_written db legal.spelled) (map assignment_view c.args.assignments.items) (given_in db es)
+    given_typed db legal.typed (map assignment_view c.args.assignments.items) (given_in db es)
     (statement_written (assign_all (map assignment_view c.args.assignments.items)) c.requires.admitted.spelled) c.requires.admitted.checked
     (subst (λ xs. given_by db [] (map assignment_view xs) ≡ Valued (given_in db es)) c.deref.ensures.value c.in-Ok.ensures.answer)
 
@@ -29,6 +29,6 @@ give_all-requires-clause-gifts g c =
     let legal = c.requires.legal in
     let es = c.in-Ok.given.entries in
     all_typed db es c.in-Ok.ensures.changes
-    (given_typed db legal.typed (definitions_written db legal.spelled) (map assignment_view c.args.assignments.items) (given_in db es)
+    (given_typed db legal.typed (map assignment_view c.args.assignments.items) (given_in db es)
     (statement_written (assign_all (map assignment_view c.args.assignments.items)) c.requires.admitted.spelled) c.requires.admitted.checked
     (subst (λ xs. given_by db [] (map assignment_view xs) ≡ Valued (given_in db es)) c.deref.ensures.value c.in-Ok.ensures.answer))

@@ -2,12 +2,10 @@ use Rattle.std.proofs.Common.{refl, subst, sym}
 use Rattle.td_catalog.specs.Database.{Database}
 use Rattle.td_engine.proofs.law_lemmas.GiftsInTurn.{bases_refused}
 use Rattle.td_engine.proofs.law_lemmas.Settled.{bases_hold}
-use Rattle.td_engine.proofs.code_lemmas.SpelledDefinitions.{gifts_spelled}
 use Rattle.td_engine.specs.Assignments.{with_gifts}
 use Rattle.td_engine.specs.code.Carried.{Changes}
 use Rattle.td_engine.specs.Changes.{given_in}
 use Rattle.td_engine.specs.Checks.{BasesHold}
-use Rattle.td_engine.specs.Legality.{AreSpelled}
 use Rattle.std.specs.Map.{keys_of}
 use Rattle.td_engine.proofs.law_lemmas.TypedAfter.{gifts_typed}
 use Rattle.td_engine.proofs.code_lemmas.UnreachedChecks.{gifts_pass_elsewhere, same_targets}
@@ -18,11 +16,6 @@ use Rattle.td_engine.proofs.assignments.give_all.Goals as goal
 
 pub put_all-requires : goal.put_all-requires
 put_all-requires g c = λ κs within. (within, ((refl, c.reveal.ensures, bases_hold c.args.catalog.now.database c.requires.legal), c.requires.gifts))
-
-pub settle_gifts-requires-clause-spelled : goal.settle_gifts-requires-clause-spelled
-settle_gifts-requires-clause-spelled g c =
-    let db = c.args.catalog.now.database in
-    subst AreSpelled (sym c.in-Ok.ensures.next) (gifts_spelled db c.requires.legal.spelled (given_in db c.args.given.now.entries))
 
 pub settle_gifts-requires-clause-held : goal.settle_gifts-requires-clause-held
 settle_gifts-requires-clause-held g c = subst BasesHold (sym c.in-Ok.ensures.next) c.in-Ok.ensures.check

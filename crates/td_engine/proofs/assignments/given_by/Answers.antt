@@ -6,7 +6,6 @@ use Rattle.td_engine.proofs.law_lemmas.GiftsInTurn.{given_refused}
 use Rattle.td_engine.proofs.law_lemmas.InOrder.{drop_next}
 use Rattle.td_engine.proofs.code_lemmas.PlannableAssignments.{all_admitted}
 use Rattle.td_engine.proofs.law_lemmas.TypedGifts.{given_more}
-use Rattle.td_engine.proofs.law_lemmas.WrittenStatements.{definitions_written}
 use Rattle.td_engine.specs.Assignments.{given_by, with_assignment}
 use Rattle.td_engine.specs.Changes.{given_in}
 use Rattle.td_engine.specs.code.Plannable.{IsAdmittedAssignment}
@@ -44,6 +43,6 @@ loop-assignment-preserved g c =
       c.loop-assignment.invariant.0 ∙ ap (λ ys. given_by db so_far (map assignment_view ys)) (drop_next xs i x at)
           ∙ ap (λ o. with_value o (λ given. given_by db given (map assignment_view (drop (i + 1) xs)))) next,
       c.in-Ok.ensures.changes,
-      given_more db legal.typed (definitions_written db legal.spelled) so_far (given_in db c.give.new.given.entries) (assignment_view x) c.loop-assignment.invariant.2
+      given_more db legal.typed so_far (given_in db c.give.new.given.entries) (assignment_view x) c.loop-assignment.invariant.2
           is.written is.checked next,
     )

@@ -10,14 +10,14 @@ use Rattle.td_engine.proofs.checks.check_constraints.Goals as goal
 
 pub check_constraint-requires-clause-plannable : goal.check_constraint-requires-clause-plannable
 check_constraint-requires-clause-plannable g c =
-    constraint_plannable c.args.catalog.now.database c.reveal.ensures c.requires.spelled c.loop-place.place
+    constraint_plannable c.args.catalog.now.database c.reveal.ensures c.loop-place.place
     (named_constraint c.in-Some.name.now c.in-Some.condition.now) (sym c.in-Some.ensures)
 
 pub check_constraint-requires-clause-elsewhere : goal.check_constraint-requires-clause-elsewhere
 check_constraint-requires-clause-elsewhere g c =
     let db = c.args.catalog.now.database in
     of_place (PassesUnlessNamed c.args.reached.now (world_of db)) db.constraints c.loop-place.place (named_constraint c.in-Some.name.now c.in-Some.condition.now)
-    c.requires.elsewhere (sym c.in-Some.ensures)
+    c.requires (sym c.in-Some.ensures)
 
 pub returns-in-Err : goal.returns-in-Err
 returns-in-Err g c =

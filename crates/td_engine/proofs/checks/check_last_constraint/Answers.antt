@@ -5,5 +5,5 @@ use Rattle.td_engine.proofs.checks.check_last_constraint.Goals as goal
 
 pub test_constraint-requires : goal.test_constraint-requires
 test_constraint-requires g c =
-    constraint_plannable c.args.catalog.now.database c.reveal.ensures c.requires c.saturating_sub-place.result
+    constraint_plannable c.args.catalog.now.database c.reveal.ensures c.saturating_sub-place.result
     (named_constraint c.in-Some.name.now c.in-Some.condition.now) (sym c.in-Some.ensures)

@@ -10,14 +10,14 @@ use Rattle.td_engine.proofs.checks.check_virtuals.Goals as goal
 
 pub check_virtual-requires-clause-plannable : goal.check_virtual-requires-clause-plannable
 check_virtual-requires-clause-plannable g c =
-    virtual_plannable c.args.catalog.now.database c.reveal.ensures c.requires.spelled c.loop-place.place
+    virtual_plannable c.args.catalog.now.database c.reveal.ensures c.loop-place.place
     (virtual_view (c.in-Some.name.now, c.in-Some.entry.now)) (sym c.in-Some.ensures)
 
 pub check_virtual-requires-clause-elsewhere : goal.check_virtual-requires-clause-elsewhere
 check_virtual-requires-clause-elsewhere g c =
     let db = c.args.catalog.now.database in
     of_place (PassesUnlessReached c.args.reached.now (world_of db)) db.virtuals c.loop-place.place (virtual_view (c.in-Some.name.now, c.in-Some.entry.now))
-    c.requires.elsewhere (sym c.in-Some.ensures)
+    c.requires (sym c.in-Some.ensures)
 
 pub returns-in-Err : goal.returns-in-Err
 returns-in-Err g c =

@@ -1,18 +1,8 @@
-use Rattle.std.proofs.Common.{subst}
 use Rattle.td_catalog.specs.Database.{named_constraint, with_constraint}
 use Rattle.td_engine.proofs.code_lemmas.NewChecks.{constraint_changed}
-use Rattle.td_engine.proofs.code_lemmas.SpelledDefinitions.{with_constraint_spelled}
-use Rattle.td_engine.specs.Legality.{AreSpelled}
 use Rattle.td_tree.specs.code.TreeViews.{tree_view}
 use Rattle.td_types.proofs.OutcomeLaws.{valued_is}
 use Rattle.td_engine.proofs.definitions.define_constraint.Goals as goal
-
-pub check_last_constraint-requires : goal.check_last_constraint-requires
-check_last_constraint-requires g c =
-    let db = c.args.catalog.now.database in
-    let e = tree_view c.args.condition in
-    subst AreSpelled (valued_is (with_constraint (named_constraint c.args.name e) db) c.add_constraint.new.catalog.database c.in-Ok.ensures.answer)
-    (with_constraint_spelled db c.requires.legal.spelled c.args.name e c.requires.admitted.spelled)
 
 pub returns-in-Ok-clause-change : goal.returns-in-Ok-clause-change
 returns-in-Ok-clause-change g c =

@@ -1,14 +1,7 @@
 use Rattle.std.proofs.Common.{map}
 use Rattle.td_engine.proofs.code_lemmas.NewChecks.{virtual_changed}
-use Rattle.td_engine.proofs.code_lemmas.SpelledDefinitions.{with_virtual_spelled}
 use Rattle.td_tree.specs.code.TreeViews.{tree_view}
 use Rattle.td_engine.proofs.definitions.define_virtual.Goals as goal
-
-pub check_last_virtual-requires : goal.check_last_virtual-requires
-check_last_virtual-requires g c =
-    let d = c.args.definition in
-    with_virtual_spelled c.args.catalog.now.database c.requires.legal.spelled d.name (tree_view d.expression) (map (λ key. key.items) d.keys.items)
-    c.requires.admitted.spelled c.add_virtual.new.catalog.database c.in-Ok.ensures.answer
 
 pub returns-in-Ok-clause-change : goal.returns-in-Ok-clause-change
 returns-in-Ok-clause-change g c =

@@ -11,14 +11,6 @@ use Rattle.td_tree.specs.Trees.{name, parentheses, restriction}
 use Rattle.td_value.specs.Values.{Relation}
 use Rattle.td_engine.proofs.first_changes.first_chosen.Goals as goal
 
-pub tuples_where-requires : goal.tuples_where-requires
-tuples_where-requires g c =
-    let db = c.args.catalog.now.database in
-    let n = c.args.target.now in
-    let is : IsPlannable db (restriction (name n) (tree_view c.in-Some.condition.now)) =
-    subst (λ o. IsPlannableIf db (option_map (restriction (name n)) (option_map (λ e. tree_view e.now) o))) c.in-Some.is c.requires.condition in
-    is.definitions
-
 pub returns-clause-answer : goal.returns-clause-answer
 returns-clause-answer g c =
     let db = c.args.catalog.now.database in
@@ -30,7 +22,7 @@ returns-clause-answer g c =
     let headed : none.heading ≡ r.heading = ap (λ (q : Relation). q.heading) c.in_ok-none.ensures.value ∙ c.in_ok-try_clone.ensures ∙ sym c.requires.heading in
     let is : IsPlannable db (restriction (name n) p) =
     subst (λ o. IsPlannableIf db (option_map (restriction (name n)) (option_map (λ e. tree_view e.now) o))) c.in-Some.is c.requires.condition in
-    let told = c.tuples_where.ensures (record { gives = is.gives; tuples = (tt, refl); written = is.written; typed = is.typed }) in
+    let told = c.tuples_where.ensures (record { gives = is.gives; tuples = (tt, refl); typed = is.typed }) in
     subst (λ o. Answers (λ (q : Relation). q) c.relation_of.result (chosen_for r w n (option_map (λ e. tree_view e.now) o))) (sym c.in-Some.is)
     (subst (Answers (λ (q : Relation). q) c.relation_of.result) (for_heading w (restriction (name n) (parentheses p)) none r headed)
     (c.relation_of.ensures.answer (value_of w [] (restriction (name n) p)) told))

@@ -4,13 +4,8 @@ use Rattle.td_engine.proofs.first_changes.first_updated.Goals as goal
 pub updated_tuples-requires : goal.updated_tuples-requires
 updated_tuples-requires g c =
     record {
-      definitions = c.requires.definitions;
-      settings =
-          record {
-            gives = c.requires.gives;
-            tuples = (tt, refl);
-            relation = c.requires.tuples c.args.chosen.now refl;
-            written = c.requires.written;
-            typed = c.requires.typed c.args.chosen.now refl;
-          };
+      gives = c.requires.gives;
+      tuples = (tt, refl);
+      relation = c.requires.tuples c.args.chosen.now refl;
+      typed = c.requires.typed c.args.chosen.now refl;
     }

@@ -18,7 +18,7 @@ pieces-init g c =
           (streamed_first c.args.limit c.args.stop before from)),
       ap (λ (held : Held). held.finished) c.new-cutter.ensures,
       λ h. ap first_statement c.new-cutter.ensures ∙ none_at_first,
-      search rules,
+      λ h. h,
       search rules,
       λ h. h,
     )
@@ -89,7 +89,7 @@ pieces-preserved g c =
       streamed_on c.args.limit (c.pieces.room - c.in-Ok.count) c.args.stop _ _ _ new last s c.in-Ok-run_held.ensures.advanced,
       c.in-Ok-run_held.ensures.advanced.finished_is ∙ c.in-Ok.ensures.fed.more (some_of c.in-Ok.count c.if-count-eq0.false),
       c.in-Ok-run_held.ensures.all,
-      λ h. c.in-Ok.ensures.whole,
+      λ h. c.in-Ok.ensures.whole ∙ c.pieces.invariant.3 h,
       c.in-Ok-run_held.ensures.legal c.pieces.invariant.4,
       λ h. c.in-Ok-run_held.ensures.whole (c.pieces.invariant.5 h),
     )

@@ -1,4 +1,4 @@
-use Rattle.std.proofs.Common.{◌≡◌, ◌<◌, ◌&&◌, nat_lt, false, None}
+use Rattle.std.proofs.Common.{◌≡◌, ◌&&◌, nat_lt, false, None}
 use Rattle.td_engine.proofs.code_lemmas.Endings.{Streamed}
 use Rattle.td_engine.proofs.run.run_within.Given as goal
 use Rattle.td_engine.specs.Legality.{IsLegalState}
@@ -12,7 +12,7 @@ invariant-pieces g l = Streamed l.limit l.room l.stop (standing l.fn.engine (g.W
     (g.R.Source.left l.fn.reader) (g.R.Source.left l.reader) (place_at l.cutter (standing l.engine (g.W.Sink.taken l.writer)) l.report)
     × (l.cutter.finished ≡ false)
     × ((l.stop && nat_lt 0 l.report.refused) ≡ false → first_statement l.cutter ≡ None)
-    × (0 < l.report.refused → g.R.Source.is_broken l.reader ≡ false)
+    × (g.R.Source.is_broken l.fn.reader ≡ false → g.R.Source.is_broken l.reader ≡ false)
     × IsLegalState l.engine
     × (g.W.Sink.is_broken l.fn.writer ≡ false → g.W.Sink.is_broken l.writer ≡ false)
 

@@ -29,7 +29,7 @@ loop-rest-preserved g c =
       before.0 ++ take n rest,
       split_on _ before.0 rest n before.1,
       Appends-trans _ _ _ before.0 (take n rest) before.2 c.in-Ok.ensures.bytes,
-      λ _. c.in-Ok.ensures.broken,
+      λ h. c.in-Ok.ensures.stays ∙ before.3 h,
     )
 
 pub returns-in-Err-clause-cut : goal.returns-in-Err-clause-cut

@@ -8,9 +8,6 @@ use Rattle.td_tree.specs.Trees.{name, restriction}
 use Rattle.td_value.specs.Values.{Relation}
 use Rattle.td_engine.proofs.updates.chosen_by.Goals as goal
 
-pub tuples_where-requires : goal.tuples_where-requires
-tuples_where-requires g c = c.requires.definitions
-
 pub returns-clause-answer : goal.returns-clause-answer
 returns-clause-answer g c =
     let db = c.args.catalog.now.database in
@@ -18,6 +15,6 @@ returns-clause-answer g c =
     let so_far = c.args.so_far.now in
     let p = tree_view c.args.condition.now in
     let told =
-    c.tuples_where.ensures (record { gives = c.requires.gives; tuples = (tt, refl); written = c.requires.written; typed = c.requires.typed }) in
+    c.tuples_where.ensures (record { gives = c.requires.gives; tuples = (tt, refl); typed = c.requires.typed }) in
     subst (Answers (λ (q : Relation). q) c.relation_of.result) (restricted_is db n so_far p)
     (c.relation_of.ensures.answer (value_of (source_world db n so_far) [] (restriction (name n) p)) told)

@@ -44,7 +44,7 @@ returns-in_err-changed-clause-answer g c = λ so_far e.
     rw (is.1, is.2)
     (subst (Answers (λ (r : Relation). union (difference so_far chosen) r) (Err c.in_err-changed.field-0.0)) (sym valued)
     (refused_on (λ (r : Relation). r) (λ (r : Relation). union (difference so_far chosen) r) c.in_err-changed.field-0.0 (set_value (pairs_view c.in_ok-attributes.attributes.items) fs chosen) made
-    (c.in_err-changed.ensures c.requires.settings)))
+    (c.in_err-changed.ensures c.requires)))
 
 pub returns-clause-answer : goal.returns-clause-answer
 returns-clause-answer g c = λ so_far e.
@@ -55,11 +55,8 @@ returns-clause-answer g c = λ so_far e.
     let rest = λ (attributes : List Attribute). with_value (set_value attributes fs chosen) made in
     let valued : with_value (setting_attributes so_far.heading (setting_names parts)) rest ≡ made c.in_ok-changed.changed =
     ap (λ h. with_value (setting_attributes h (setting_names parts)) rest) (e ∙ sym c.heading.ensures) ∙ ap (λ o. with_value o rest) c.in_ok-attributes.ensures.answer
-    ∙ ap (λ o. with_value o made) (c.in_ok-changed.ensures c.requires.settings) in
+    ∙ ap (λ o. with_value o made) (c.in_ok-changed.ensures c.requires) in
     subst (Answers (λ (r : Relation). union (difference so_far chosen) r) c.of_heading.result) (sym valued)
     (answers_then c.of_heading.result (of_heading so_far c.in_ok-changed.changed) (λ (r : Relation). union (difference so_far chosen) r)
     (subst (λ h. Answers (λ (r : Relation). r) c.of_heading.result (value_if (same_heading c.in_ok-changed.changed.heading h) c.in_ok-changed.changed causes.Heading)) (sym e)
     c.of_heading.ensures.answer))
-
-pub set_in_tuples-requires-clause-written : goal.set_in_tuples-requires-clause-written
-set_in_tuples-requires-clause-written g c = c.requires.definitions

@@ -24,4 +24,4 @@ returns g c = λ rules.
     (extension_is_set xs fs r
     (length-map c.args.attributes.items pair_view ∙ c.requires.lengths ∙ sym (as_many_set (world_in env) (tuples_in_hand env) c.args.parts.now)) c.requires.distinct)
     (c.run_valued.ensures (scope_in env) (λ w s. extension_of xs (values_in_tuples w s parts) r)
-    (c.in_ok-plan.ensures rules.relation.0 rules.relation.1 rules.written.0 rules.written.1 rules.typed.0 rules.typed.1) rules.gives rules.tuples))
+    (c.in_ok-plan.ensures rules.relation.0 rules.relation.1 c.reveal_parts.ensures.names c.reveal_parts.ensures.texts rules.typed.0 rules.typed.1) rules.gives rules.tuples))

@@ -33,7 +33,7 @@ invariant_of-self-2 g c =
     let new : is_declared c.args.name rows.types ≡ false = ap is_some (sym c.get.ensures) ∙ some_map _ c.get.result ∙ sym c.is_some.ensures ∙ c.if-is_some.false in
     let led = type_added relation keys kept rows c.in_ok-added.added c.add.new.self d c.in_ok-add.ensures.added (sym c.in_ok-added.ensures) (ap (λ n. is_declared n rows.types) c.in_ok-added.ensures ∙ new) in
     let catalog = catalog_with_type relation keys rows d c.add.new.self history.catalog c.in_ok-add.ensures.added c.reveal.ensures
-    (subst (λ (db : Database). IsConstrained db.types d) (ap (λ (v : CatalogView). v.database) (sym c.self.view_is)) c.requires.constrained) in
+    (subst (λ (db : Database). IsConstrained db.types d) (ap (λ (v : CatalogView). v.database) (sym c.self.view_is)) c.requires.constrained) c.reveal_constraint.ensures in
     record {
       history = history_next relation keys kept rows (with_types c.add.new.self rows) steps c.note.new.self.steps.items (TypeAdded c.in_ok-added.added) c.note.ensures led history catalog;
       room = room_stays c.self.inside.tables _ steps c.note.new.self.steps.items (TypeAdded c.in_ok-added.added) c.note.ensures refl (subst (λ (n : ℕ). HasRoom n c.self.inside.tables) (ap dropped_in (sym c.reserve.ensures.steps)) c.self.invariant.room) (record { bases = omega arith; virtuals = omega arith; constraints = omega arith; known_bases = omega arith; known_virtuals = omega arith; known_constraints = omega arith });

@@ -14,6 +14,7 @@ use Rattle.td_catalog.specs.Database.{Database, VirtualRelvar, database_scope, k
 use Rattle.td_catalog.specs.TypedDatabases.{IsTypedVirtual}
 use Rattle.td_catalog.specs.declared.entry.VirtualEntry.{VirtualEntry}
 use Rattle.td_catalog.proofs.Changes.{catalog_with_virtual, no_virtual, view_with_virtual, with_virtual_rows}
+use Rattle.td_tree.specs.WrittenTrees.{IsWritten}
 use Rattle.td_tree.specs.code.TreeViews.{tree_view}
 use Rattle.td_catalog.proofs.Rows.{rows_with}
 use Rattle.td_catalog.proofs.catalog.Catalog.add_virtual.Goals as goal
@@ -37,7 +38,8 @@ invariant_of-self-2 g c =
     (subst (λ e. IsTypedVirtual (database_scope (database_view relation rows)) (virtual_relvar c.args.name c.args.heading e (map (λ key. key.items) c.args.keys.items)))
     (sym c.in_ok-tree.ensures)
     (subst (λ (db : Database). IsTypedVirtual (database_scope db) (virtual_relvar c.args.name c.args.heading (tree_view c.args.tree) (map (λ key. key.items) c.args.keys.items)))
-    (sym seen) c.requires))) in
+    (sym seen) c.requires))
+    (subst IsWritten (sym c.in_ok-tree.ensures) c.reveal-2.ensures)) in
     let led = virtual_added relation keys kept rows c.insert.new.self.entries (c.args.name, entry)
     (c.in_ok-insert.ensures.entries ∙ rows_with virtual_view (λ (v : VirtualRelvar). v.name) (λ row. refl) c.prepare.new.tables.virtuals c.args.name entry (no_virtual relation keys c.args.name rows free)) in
     let named : known_of c.prepare.new.tables ≡ known_rows rows = c.prepare.ensures.known ∙ c.self.invariant.named ∙ ap known_rows (sym same) in

@@ -8,7 +8,7 @@ use Rattle.td_plan.proofs.RememberedRows.{part_deep, parts_deep, parts_sound}
 use Rattle.td_plan.proofs.StepRows.{select_is, steps_are}
 use Rattle.td_plan.proofs.Withins.{aggregate_on, attribute_on, bound_on, choice_on, dyadic_on, extend_on, look_up_on, monadic_on, on_more, restriction_on, select_on, summarize_by_on, summarize_per_on}
 use Rattle.td_plan.specs.Plans as plans
-use Rattle.td_plan.specs.code.Memos.{AreApart, IsOn}
+use Rattle.td_plan.specs.code.Memos.{AreWithinReach, IsOn}
 use Rattle.td_plan.specs.code.Remembered.{AreAllAmong, AreAmong, AreAmongBut, AreBoundNames, AreEachKept, AreEachRemembered, IsRemembered, KeepsPart}
 use Rattle.td_plan.specs.code.StepHeights.{step_height}
 use Rattle.td_plan.specs.code.StepViews.{dyadic_view, monadic_view, selector_view, step_view}
@@ -303,7 +303,7 @@ nodes::bound-returns t c =
     bound_made (λ ps p. plans.bound slot ps p) _ _ slot reach names (λ inner ps p before f g. bound_on names inner slot before ps p f g) _ _ _ _ _ _ c.in_ok-bound.ensures
     (λ i. plans.bound slot (steps_are c.args.items i) (step_view (sym c.deref_mut.ensures.value i)))
     (ap (λ ps. plans.bound slot ps (step_view c.all_bound.new.value)) (steps_are c.all_bound.new.items))
-    (λ ps s. (parts_sound ps c.all_bound.new.items s.0.0, s.0.1, subst (AreApart reach slot) (sym (steps_are c.all_bound.new.items)) s.1))
+    (λ ps s. (parts_sound ps c.all_bound.new.items s.0.0, s.0.1, subst (AreWithinReach reach slot) (sym (steps_are c.all_bound.new.items)) s.1))
 
 pub named_step-bound-requires : goal.named_step-bound-requires
 named_step-bound-requires t c =

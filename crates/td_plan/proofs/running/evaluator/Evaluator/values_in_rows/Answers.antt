@@ -13,13 +13,13 @@ values_by_row-requires-clause-ready g c =
     let w = g.A.InWorld.world c.args.self.now.around.now in
     let r = c.requires.ready in
     let a = c.in-Some.ensures.kept r.parts r.sound r.memo in
-    ready_hoisted w c.args.inside.now c.in-Some.hoisted.inside c.args.step.now c.in-Some.hoisted.step.now c.hoisted.new.memo a.0 c.in-Some.ensures.sound
-    (ready_still c.hoisted.ensures.kept r)
+    ready_hoisted w c.args.inside.now c.in-Some.hoisted.inside c.args.step.now c.in-Some.hoisted.step.now c.hoisted_loop.new.memo a.0 c.in-Some.ensures.sound
+    (ready_still c.hoisted_loop.ensures.kept r)
 
 pub returns-in-Some : goal.returns-in-Some
 returns-in-Some g c = λ ps sound m.
     let w = g.A.InWorld.world c.args.self.now.around.now in
     let a = c.in-Some.ensures.kept ps sound m in
-    kept_hoisted w c.args.inside.now c.in-Some.hoisted.inside c.args.step.now c.in-Some.hoisted.step.now c.hoisted.new.memo c.values_by_row.new.memo
+    kept_hoisted w c.args.inside.now c.in-Some.hoisted.inside c.args.step.now c.in-Some.hoisted.step.now c.hoisted_loop.new.memo c.values_by_row.new.memo
     (λ f. Answers (λ vs. vs.items) c.values_by_row.result (gathered (map f c.args.rows.now)))
     ps a.0 (c.in-Some.ensures.sound ps sound) c.values_by_row.ensures a.1

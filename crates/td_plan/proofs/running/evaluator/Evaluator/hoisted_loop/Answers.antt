@@ -6,17 +6,17 @@ use Rattle.td_plan.specs.Plans.{plan_value, with_slot}
 use Rattle.td_plan.specs.code.Hands.{slots_in}
 use Rattle.td_plan.specs.code.StepViews.{step_view, steps_view}
 use Rattle.td_value.specs.code.Views.{values_of}
-use Rattle.td_plan.proofs.running.evaluator.Evaluator.hoisted.Goals as goal
+use Rattle.td_plan.proofs.running.evaluator.Evaluator.hoisted_loop.Goals as goal
 
-pub behind-requires-clause-below : goal.behind-requires-clause-below
-behind-requires-clause-below g c =
+pub loop_behind-requires-clause-below : goal.loop_behind-requires-clause-below
+loop_behind-requires-clause-below g c =
     let b = c.in-Bound in
     let made = bound_made c.args.step.now b.items c.deref.result.now c.deref.ensures.value b.slot b.reach b.value b.value.value b.is refl in
     let h = made.height in
     lower (omega (arith, h)) c.requires.below
 
-pub behind-requires-clause-ready : goal.behind-requires-clause-ready
-behind-requires-clause-ready g c =
+pub loop_behind-requires-clause-ready : goal.loop_behind-requires-clause-ready
+loop_behind-requires-clause-ready g c =
     let b = c.in-Bound in
     let made = bound_made c.args.step.now b.items c.deref.result.now c.deref.ensures.value b.slot b.reach b.value b.value.value b.is refl in
     let r = c.requires.ready in
@@ -61,8 +61,8 @@ returns-in-Some-clause-kept g c = λ ps sound m.
       a.1,
     )
 
-pub returns-in_default-behind-clause-kept : goal.returns-in_default-behind-clause-kept
-returns-in_default-behind-clause-kept g c = λ ps sound m.
+pub returns-in_default-loop_behind-clause-kept : goal.returns-in_default-loop_behind-clause-kept
+returns-in_default-loop_behind-clause-kept g c = λ ps sound m.
     let b = c.in-Bound in
     let made = bound_made c.args.step.now b.items c.deref.result.now c.deref.ensures.value b.slot b.reach b.value b.value.value b.is refl in
-    (tt, (c.behind.ensures ps (made.sound ps sound).0 m).1)
+    (tt, (c.loop_behind.ensures ps (made.sound ps sound).0 m).1)

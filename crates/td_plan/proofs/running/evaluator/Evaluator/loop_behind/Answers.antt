@@ -4,7 +4,7 @@ use Rattle.td_plan.specs.Plans.{plan_where_bound, slots_before}
 use Rattle.td_plan.specs.code.Hands.{slots_in}
 use Rattle.td_plan.specs.code.Memos.{AgreeBelow, IsMemo}
 use Rattle.td_plan.specs.code.StepViews.{steps_view}
-use Rattle.td_plan.proofs.running.evaluator.Evaluator.behind.Goals as goal
+use Rattle.td_plan.proofs.running.evaluator.Evaluator.loop_behind.Goals as goal
 
 pub bind_all-bound-requires-clause-ready : goal.bind_all-bound-requires-clause-ready
 bind_all-bound-requires-clause-ready g c =
