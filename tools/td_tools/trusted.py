@@ -44,8 +44,9 @@ CHAPTERS = {
     ],
     "The dump": ["td_value.specs.Literal", "td_catalog.specs.Dumps"],
     "Legality": [
-        "td_catalog.specs.TypedDatabases", "td_eval.specs.LiteralValues",
-        "td_engine.specs.Legality", "td_engine.specs.LegalityLaws",
+        "td_tree.specs.WrittenTrees", "td_types.specs.TypeListLaws",
+        "td_catalog.specs.WrittenDefinitions", "td_catalog.specs.TypedDatabases",
+        "td_eval.specs.LiteralValues", "td_engine.specs.Legality", "td_engine.specs.LegalityLaws",
     ],
     "What a run promises": [
         "td_engine.specs.Told", "td_engine.specs.Faults", "td_engine.specs.Scripts",
