@@ -16,7 +16,7 @@ use Rattle.td_plan.specs.code.Runs.{step_value}
 use Rattle.td_plan.specs.code.StepViews.{step_view, steps_view}
 use Rattle.td_tree.specs.declared.fault.Fault.{Fault}
 use Rattle.td_tree.specs.declared.fault.Fault.TheVariants as faults
-use Rattle.td_tree.specs.Outcomes.{Answers, Outcome, Valued, with_value}
+use Rattle.td_tree.specs.Outcomes.{Answers, Outcome, Refused, Valued, with_value}
 use Rattle.td_types.proofs.OutcomeLaws.{valued_is}
 use Rattle.td_value.specs.code.Views.{values_of}
 use Rattle.td_value.specs.Values.{Tuple, Val, boolean, char, integer, relation, tuple, unpack_fields, user}
@@ -56,6 +56,16 @@ module _ (ps : Parts) (w : World) (slot : ℕ) (s : Slots) (item : Step) where
         agree,
         memo (slots_in rows) agree,
       )
+
+  -- where that is what is known of its value
+  pub item_kept : (t : Tuple) (rows : List (Option Tuple)) (m : Memo) → with_value (step_value w s item) (λ v. on_tuple v Valued) ≡ Valued t
+      → slots_in rows ≡ with_slot slot (values_of t) s → ((u : Slots) → AgreeBelow slot s u → IsMemo ps w u m)
+      → IsEntered ps w slot s (where_in_slot w s slot item) (Ok tt) rows m
+  item_kept t rows m known put memo = by_outcome (step_value w s item) refl
+    where
+      by_outcome : (o : Outcome Val) → step_value w s item ≡ o → IsEntered ps w slot s (where_in_slot w s slot item) (Ok tt) rows m
+      by_outcome (Valued v) is = item_entered v t rows m is (subst (λ o. with_value o (λ v. on_tuple v Valued) ≡ Valued t) is known) put memo
+      by_outcome (Refused c) is = absurd (let no : Refused c ≡ Valued t = subst (λ o. with_value o (λ v. on_tuple v Valued) ≡ Valued t) is known in cc)
 
   -- where it has no value
   pub item_refused : (f : Fault) (rows : List (Option Tuple)) (m : Memo) → Answers {X = Val} (λ v. v) (Err f) (step_value w s item) → IsMemo ps w s m

@@ -84,7 +84,7 @@ hoisted_value w inside inner slot reach ps p row low high apart behind =
     ∙ ap (λ m. plan_value w (with_slot m row (slots_in inner.outer.items)) p) (sym behind.0)
 
 -- the memo is right in it, and may be used there
-memo_hoisted : (ps : Parts) (w : World) (k l : ℕ) (s t : Slots) (m : Memo) → l ≡ k → AgreeBelow k s t → IsMemoBelow ps w k s m → IsMemoBelow ps w l t m
+pub memo_hoisted : (ps : Parts) (w : World) (k l : ℕ) (s t : Slots) (m : Memo) → l ≡ k → AgreeBelow k s t → IsMemoBelow ps w k s m → IsMemoBelow ps w l t m
 memo_hoisted ps w k l s t m at agree memo = subst (λ z. IsMemoBelow ps w z t m) (sym at) (λ u same. memo u (λ j low. agree j low ∙ same j low))
 
 memo_back : (ps : Parts) (w : World) (k l : ℕ) (s t : Slots) (m : Memo) → l ≡ k → AgreeBelow k s t → IsMemoBelow ps w l t m → IsMemoBelow ps w k s m

@@ -12,7 +12,7 @@ use Rattle.td_plan.specs.declared.plan.step.Step.{Step}
 use Rattle.td_plan.proofs.SlotLaws.{agree_below, slot_here, slot_other}
 use Rattle.td_plan.specs.declared.running.hand.Inside.{Inside}
 use Rattle.td_plan.specs.declared.running.memo.Memo.{Memo}
-use Rattle.td_plan.specs.Plans.{PlanTree, Slots, attribute, plan_value, value_or}
+use Rattle.td_plan.specs.Plans.{PlanTree, PlanTrees, Slots, attribute, bound, plan_value, value_or}
 use Rattle.td_plan.specs.code.Hands.{slots_in, slots_inside}
 use Rattle.td_plan.specs.code.Quick.{AreInRows, AreQuick, IsQuick}
 use Rattle.td_plan.specs.code.QuickInside.{IsMemoInside, value_inside}
@@ -51,6 +51,15 @@ pub of_outer : {X : Type 0} (view : X → Val) (w : World) (inside : Inside) (sl
 of_outer view w inside slot place ts found other q =
     subst (λ (f : Tuple → Outcome Val). AreQuick view f ts found)
     (λ i t. value_or (slice_get (sym (slot_other slot inside.slot (values_of t) (slots_in inside.outer.items) other) i) place)) q
+
+-- what stands behind tuples that are in scope in another loop already
+pub of_bound : {X : Type 0} (view : X → Val) (w : World) (inside inner : Inside) (s value : Step) (slot : ℕ) (items : PlanTrees) (ts : List Tuple) (found : Option (Vec X))
+    → step_view s ≡ bound slot items (step_view value)
+    → ((p : PlanTree) (t : Tuple) → plan_value w (slots_inside inside t) (bound slot items p) ≡ plan_value w (slots_inside inner t) p)
+    → AreQuick view (value_inside w inner value) ts found → AreQuick view (value_inside w inside s) ts found
+of_bound view w inside inner s value slot items ts found is same q =
+    of_plan view w inside s (bound slot items (step_view value)) ts found is
+    (subst (λ (f : Tuple → Outcome Val). AreQuick view f ts found) (λ i t. sym (same (step_view value) t) i) q)
 
 -- what is found where a tuple of the loop is in scope
 pub quick_inside : {X : Type 0} (view : X → Val) (found : Option X) (w : World) (inside : Inside) (t : Tuple) (s : Slots) (step : Step) (memo : Memo) (ps : Parts)

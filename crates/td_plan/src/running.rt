@@ -10,6 +10,7 @@ mod loops;
 pub(crate) mod memo;
 mod operators;
 mod quick;
+mod quick_bound;
 mod quick_rows;
 mod rows;
 mod run;

@@ -5,10 +5,10 @@ use Rattle.td_eval.specs.Worlds.{World}
 use Rattle.td_plan.specs.declared.plan.step.Step.{Step}
 use Rattle.td_plan.specs.declared.running.hand.Inside.{Inside}
 use Rattle.td_plan.specs.declared.running.memo.Memo.{Memo}
-use Rattle.td_plan.specs.Plans.{PlanTrees, Slots, plan_where_bound, slots_before, with_slot}
-use Rattle.td_plan.specs.code.Hands.{slots_in}
-use Rattle.td_plan.specs.code.Memos.{AgreeBelow, IsMemo, Parts}
-use Rattle.td_plan.specs.code.QuickInside.{value_inside}
+use Rattle.td_plan.specs.Plans.{PlanTree, PlanTrees, Slots, bound, plan_value, plan_where_bound, slots_before, with_slot}
+use Rattle.td_plan.specs.code.Hands.{slots_in, slots_inside}
+use Rattle.td_plan.specs.code.Memos.{AgreeBelow, AreWithinReach, IsMemo, Parts}
+use Rattle.td_plan.specs.code.QuickInside.{IsMemoInside, value_inside}
 use Rattle.td_plan.specs.code.Runs.{step_value}
 use Rattle.td_tree.specs.declared.fault.Fault.{Fault}
 use Rattle.td_tree.specs.Outcomes.{Answers, Outcome, with_value}
@@ -33,6 +33,10 @@ IsEntered ps w slot s outcome (Ok u) rows m =
 IsEntered ps w slot s outcome (Err f) rows m =
     ((inside : Slots → Outcome Val) → Answers {X = Val} (λ v. v) (Err f) (outcome inside)) × IsMemoFrom ps w slot s m
 
+-- the rows are such that what goes on has its outcome in them, and they agree with the slots before
+abbrev pub AreEntered : Parts → World → ℕ → Slots → ((Slots → Outcome Val) → Outcome Val) → List (Option Tuple) → Memo → Type 0
+AreEntered ps w slot s outcome rows m = IsEntered ps w slot s outcome (Ok tt) rows m
+
 -- ---- where a loop goes over tuples behind them
 
 -- the loop where the tuples that plans have are in scope
@@ -47,3 +51,11 @@ pub record IsHoisted (w : World) (inside : Inside) (step : Step) (inner : Inside
   pub slot : inner.slot ≡ inside.slot
   pub outer : AgreeBelow inside.slot (slots_in inside.outer.items) (slots_in inner.outer.items)
   pub same : (t : Tuple) → value_inside w inside step t ≡ value_inside w inner rest t
+
+-- where the memo is right inside the loop, the plans are those of sound steps, and they do not reach the loop's tuples, it is right in
+-- the other loop, in which what stands behind the plans has its value
+abbrev pub IsBoundInside : Parts → World → Memo → Inside → ℕ → ℕ → PlanTrees → Type 0 → Inside → Type 0
+IsBoundInside ps w m inside slot reach items are_sound inner =
+    are_sound → AreWithinReach reach slot items → IsMemoInside ps w inside m
+    → IsMemoInside ps w inner m
+    × ((p : PlanTree) (t : Tuple) → plan_value w (slots_inside inside t) (bound slot items p) ≡ plan_value w (slots_inside inner t) p)

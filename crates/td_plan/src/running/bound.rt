@@ -42,7 +42,7 @@ fn rows_before(
 }
 
 /// The tuples in the slots before this one again.
-fn again_before(
+pub(crate) fn again_before(
     alloc: Global,
     outer: &[Option<Tuple>],
     slot: usize,

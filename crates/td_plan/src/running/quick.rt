@@ -194,6 +194,14 @@ pub(crate) fn quick_number(memo: &Memo, hand: &Hand<'_, '_>, step: &Step) -> Opt
                 Some(x) => negative_of(x),
             }
         }
+        Step::Once {
+            place,
+            reach: _,
+            part,
+        } => match number_in(lent_answer(memo, *place)) {
+            Some(z) => Some(z),
+            None => quick_number(memo, hand, part),
+        },
         _ => number_in(quick_value(&*memo, &*hand, &*step)),
     }
 }
@@ -328,6 +336,14 @@ pub(crate) fn quick_truth(memo: &Memo, hand: &Hand<'_, '_>, step: &Step) -> Opti
                 Some(b) => Some(!b),
             }
         }
+        Step::Once {
+            place,
+            reach: _,
+            part,
+        } => match truth_in(lent_answer(memo, *place)) {
+            Some(truth) => Some(truth),
+            None => quick_truth(memo, hand, part),
+        },
         _ => truth_in(quick_value(&*memo, &*hand, &*step)),
     }
 }

@@ -21,6 +21,7 @@ use crate::running::quick::{
     lent_value, number_in, numbers_compared, numbers_operated, outer_value, quick_number,
     quick_truth, truths_operated,
 };
+use crate::running::quick_bound::quick_behind;
 use std::alloc::{AllocError, Global};
 use td_tree::operator::{Comparison, Operator, Prefix};
 use td_value::tuple::Tuple;
@@ -182,6 +183,26 @@ fn quick_numbers(
             },
             Dyadic::Comparison(_) => Ok(None),
         },
+        Step::Bound {
+            slot,
+            reach,
+            items,
+            value,
+        } => match quick_behind(alloc, memo, inside, *slot, *reach, items) {
+            None => Ok(None),
+            Some(inner) => quick_numbers(alloc, memo, &inner, rows, value),
+        },
+        Step::Once {
+            place: _,
+            reach,
+            part,
+        } => {
+            if inside.slot < *reach {
+                quick_numbers(alloc, memo, inside, rows, part)
+            } else {
+                single_numbers(alloc, memo, inside, rows, step)
+            }
+        }
         _ => single_numbers(alloc, memo, inside, rows, step),
     }
 }
@@ -369,6 +390,26 @@ fn truths_in_all(
             },
             _ => Ok(None),
         },
+        Step::Bound {
+            slot,
+            reach,
+            items,
+            value,
+        } => match quick_behind(alloc, memo, inside, *slot, *reach, items) {
+            None => Ok(None),
+            Some(inner) => truths_in_all(alloc, memo, &inner, rows, value),
+        },
+        Step::Once {
+            place: _,
+            reach,
+            part,
+        } => {
+            if inside.slot < *reach {
+                truths_in_all(alloc, memo, inside, rows, part)
+            } else {
+                single_truths(alloc, memo, inside, rows, condition)
+            }
+        }
         _ => single_truths(alloc, memo, inside, rows, condition),
     }
 }

@@ -1,13 +1,14 @@
 use Rattle.std.proofs.Common.{◌∙◌, ap, refl, subst, sym}
 use Rattle.std.proofs.lemmas.Result.{IfOk-weaker}
 use Rattle.std.specs.List.{slice_get}
-use Rattle.td_plan.proofs.QuickRows.{found_in, of_attribute, of_outer, of_plan}
+use Rattle.td_plan.proofs.QuickRows.{found_in, of_attribute, of_bound, of_outer, of_plan}
+use Rattle.td_plan.proofs.StepParts.{bound_apart, bound_made}
 use Rattle.td_plan.specs.Plans as plans
 use Rattle.td_plan.specs.code.Hands.{slots_in}
-use Rattle.td_plan.specs.code.Memos.{IsSound}
+use Rattle.td_plan.specs.code.Memos.{IsPart, IsSound}
 use Rattle.td_plan.specs.code.Quick.{AreQuick}
 use Rattle.td_plan.specs.code.QuickInside.{value_inside}
-use Rattle.td_plan.specs.code.StepViews.{dyadic_view, step_view}
+use Rattle.td_plan.specs.code.StepViews.{dyadic_view, step_view, steps_view}
 use Rattle.td_value.specs.Values.{integer}
 use Rattle.td_plan.proofs.running.quick_rows.+quick_numbers.Goals as goal
 
@@ -53,3 +54,27 @@ returns-in-Operator t c =
     (found_in integer f rows _ c.in-Some.left c.in-Some.is (c.in_ok-quick_numbers-in-Operator.ensures ps w (subst (IsSound ps) (sym c.deref-in-Operator.ensures) both.0) m) c.deref-in-Some-2.result.now c.deref-in-Some-2.ensures.value)
     (found_in integer g rows _ c.in-Some-2.right c.in-Some-2.is (c.in_ok-quick_numbers-in-Some.ensures ps w (subst (IsSound ps) (sym c.deref-in-Some.ensures) both.1) m) c.deref-in-Some-2-2.result.now c.deref-in-Some-2-2.ensures.value)))
     c.numbers_of_both.ensures
+
+pub returns-in-Bound : goal.returns-in-Bound
+returns-in-Bound t c =
+    let b = c.in-Bound in
+    let xs = c.deref-in-Bound.result.now in
+    let d = c.deref-in-Some-quick_behind.result.now in
+    let inside = c.args.inside.now in
+    let inner = c.in-Some-quick_behind.inner in
+    let step = c.args.step.now in
+    let made = bound_made step b.items xs c.deref-in-Bound.ensures.value b.slot b.reach b.value d b.is c.deref-in-Some-quick_behind.ensures in
+    IfOk-weaker c.quick_numbers-in-Some-quick_behind.result _ _ (λ found k ps w sound m.
+    let there = c.in-Some-quick_behind.ensures ps w (made.sound ps sound).0 (bound_apart step b.items xs c.deref-in-Bound.ensures.value b.slot b.reach b.value ps b.is sound) m in
+    of_bound integer w inside inner step d b.slot (steps_view xs) c.args.rows.now found made.view there.1 (k ps w (made.sound ps sound).1 there.0))
+    c.quick_numbers-in-Some-quick_behind.ensures
+
+pub returns-then-inside-reach : goal.returns-then-inside-reach
+returns-then-inside-reach t c =
+    let i = c.in-Once in
+    let part = c.deref-then-inside-reach.result.now in
+    IfOk-weaker c.quick_numbers-then-inside-reach.result _ _ (λ found k ps w sound m.
+    let both : IsPart ps i.place i.reach (step_view i.part.value) × IsSound ps i.part.value = subst (IsSound ps) i.is sound in
+    of_plan integer w c.args.inside.now c.args.step.now (step_view part) c.args.rows.now found (ap step_view i.is ∙ ap step_view (sym c.deref-then-inside-reach.ensures))
+    (k ps w (subst (IsSound ps) (sym c.deref-then-inside-reach.ensures) both.1) m))
+    c.quick_numbers-then-inside-reach.ensures

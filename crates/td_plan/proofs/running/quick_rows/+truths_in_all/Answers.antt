@@ -1,12 +1,13 @@
 use Rattle.std.proofs.Common.{◌∙◌, Some, ap, subst, sym}
 use Rattle.std.proofs.lemmas.Result.{IfOk-weaker}
 use Rattle.td_eval.specs.OperatorValues.{comparison_value}
-use Rattle.td_plan.proofs.QuickRows.{found_in, of_plan}
+use Rattle.td_plan.proofs.QuickRows.{found_in, of_bound, of_plan}
+use Rattle.td_plan.proofs.StepParts.{bound_apart, bound_made}
 use Rattle.td_plan.specs.Plans as plans
-use Rattle.td_plan.specs.code.Memos.{IsSound}
+use Rattle.td_plan.specs.code.Memos.{IsPart, IsSound}
 use Rattle.td_plan.specs.code.Quick.{AreQuick}
 use Rattle.td_plan.specs.code.QuickInside.{value_inside}
-use Rattle.td_plan.specs.code.StepViews.{dyadic_view, monadic_view, step_view}
+use Rattle.td_plan.specs.code.StepViews.{dyadic_view, monadic_view, step_view, steps_view}
 use Rattle.td_tree.specs.Outcomes.{with_both}
 use Rattle.td_value.specs.Values.{Tuple, boolean}
 use Rattle.td_plan.proofs.running.quick_rows.+truths_in_all.Goals as goal
@@ -57,3 +58,27 @@ returns-in-Prefix t c =
     (k f rows
     (found_in boolean f rows _ c.in-Some-4.truths c.in-Some-4.is (c.in_ok-truths_in_all-in-Prefix.ensures ps w (subst (IsSound ps) (sym c.deref-in-Prefix.ensures) inner) m) c.deref-in-Some-4.result.now c.deref-in-Some-4.ensures.value)))
     c.truths_prefixed.ensures
+
+pub returns-in-Bound : goal.returns-in-Bound
+returns-in-Bound t c =
+    let b = c.in-Bound in
+    let xs = c.deref-in-Bound.result.now in
+    let d = c.deref-in-Some-quick_behind.result.now in
+    let inside = c.args.inside.now in
+    let inner = c.in-Some-quick_behind.inner in
+    let step = c.args.condition.now in
+    let made = bound_made step b.items xs c.deref-in-Bound.ensures.value b.slot b.reach b.value d b.is c.deref-in-Some-quick_behind.ensures in
+    IfOk-weaker c.truths_in_all-in-Some-quick_behind.result _ _ (λ found k ps w sound m.
+    let there = c.in-Some-quick_behind.ensures ps w (made.sound ps sound).0 (bound_apart step b.items xs c.deref-in-Bound.ensures.value b.slot b.reach b.value ps b.is sound) m in
+    of_bound boolean w inside inner step d b.slot (steps_view xs) c.args.rows.now found made.view there.1 (k ps w (made.sound ps sound).1 there.0))
+    c.truths_in_all-in-Some-quick_behind.ensures
+
+pub returns-then-inside-reach : goal.returns-then-inside-reach
+returns-then-inside-reach t c =
+    let i = c.in-Once in
+    let part = c.deref-then-inside-reach.result.now in
+    IfOk-weaker c.truths_in_all-then-inside-reach.result _ _ (λ found k ps w sound m.
+    let both : IsPart ps i.place i.reach (step_view i.part.value) × IsSound ps i.part.value = subst (IsSound ps) i.is sound in
+    of_plan boolean w c.args.inside.now c.args.condition.now (step_view part) c.args.rows.now found (ap step_view i.is ∙ ap step_view (sym c.deref-then-inside-reach.ensures))
+    (k ps w (subst (IsSound ps) (sym c.deref-then-inside-reach.ensures) both.1) m))
+    c.truths_in_all-then-inside-reach.ensures
