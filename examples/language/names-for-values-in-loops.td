@@ -24,6 +24,15 @@ WRITE SP WHERE IS_EMPTY((SP RENAME (SNO AS S, QTY AS Q)) WHERE
     (WITH (NEXT := QTY + 100, AFTER := NEXT + 100) : Q = NEXT OR Q = AFTER));
 WRITE (SP WHERE QTY = 500) WHERE (WITH (SP := SP WHERE QTY < 300) :
     COUNT(SP WHERE (WITH (MOST := MAX(SP, QTY)) : QTY = MOST)) = 1);
+// A WITH may be a part of a larger condition.
+WRITE SP WHERE QTY > 1500 AND (WITH (MOST := MAX(SP, QTY)) : QTY < MOST);
+WRITE SP WHERE NOT (WITH (A := 200, B := 'S01') : QTY > A OR SNO = B);
+WRITE SP WHERE QTY + (WITH (A := 100, B := 2) : QTY * B - A) = 200;
+WRITE SP WHERE QTY > 1500 AND (WITH (A := 1600, Q := QTY, B := A + 100) : Q > A AND Q = B);
+WRITE (SP WHERE QTY < 0) WHERE TRUE AND (WITH (A := 1 / 0) : QTY = A);
+WRITE SP WHERE QTY > 0 OR (WITH (A := 1 / 0) : QTY > A);
+WRITE SP WHERE QTY / 0 = 1 AND (WITH (A := 9223372036854775807 + 1, B := MAX(SP WHERE QTY < 0, QTY)) :
+    A = B);
 // An item is refused only where there are tuples, and before what stands behind it.
 WRITE (SP WHERE QTY < 0) WHERE (WITH (X := 1 / 0) : QTY = X);
 WRITE SP WHERE (WITH (X := 1 / 0) : QTY = X);
