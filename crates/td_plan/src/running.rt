@@ -11,6 +11,7 @@ pub(crate) mod memo;
 mod operators;
 mod quick;
 mod quick_bound;
+mod quick_numbers;
 mod quick_rows;
 mod rows;
 mod run;

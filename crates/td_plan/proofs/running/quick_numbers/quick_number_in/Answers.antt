@@ -1,7 +1,7 @@
 use Rattle.td_plan.proofs.QuickRows.{quick_inside}
 use Rattle.td_plan.specs.code.Hands.{slots_of}
 use Rattle.td_value.specs.Values.{integer}
-use Rattle.td_plan.proofs.running.quick_rows.quick_number_in.Goals as goal
+use Rattle.td_plan.proofs.running.quick_numbers.quick_number_in.Goals as goal
 
 pub returns : goal.returns
 returns c = λ ps w sound m.

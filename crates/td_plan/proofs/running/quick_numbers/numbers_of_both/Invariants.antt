@@ -4,7 +4,7 @@ use Rattle.td_eval.specs.OperatorValues.{operator_value}
 use Rattle.td_plan.proofs.QuickRows.{of_two}
 use Rattle.td_tree.specs.Outcomes.{Valued}
 use Rattle.td_value.specs.Values.{integer}
-use Rattle.td_plan.proofs.running.quick_rows.numbers_of_both.Given as goal
+use Rattle.td_plan.proofs.running.quick_numbers.numbers_of_both.Given as goal
 
 abbrev pub invariant-loop-place : goal.invariant-loop-place
 invariant-loop-place l = map (of_two integer (operator_value l.op)) (take l.place (zip l.left l.right)) ≡ map (λ x. Valued (integer x)) l.numbers.items

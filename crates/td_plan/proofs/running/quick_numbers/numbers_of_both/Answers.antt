@@ -9,7 +9,7 @@ use Rattle.td_eval.specs.OperatorValues.{operator_value}
 use Rattle.td_plan.proofs.QuickRows.{of_both, of_two, one_more}
 use Rattle.td_plan.specs.code.Quick.{IsQuick}
 use Rattle.td_value.specs.Values.{integer}
-use Rattle.td_plan.proofs.running.quick_rows.numbers_of_both.Goals as goal
+use Rattle.td_plan.proofs.running.quick_numbers.numbers_of_both.Goals as goal
 
 pub number_at-x-requires : goal.number_at-x-requires
 number_at-x-requires c = omega (arith, c.if-left-right.false, c.loop-place-test.true)

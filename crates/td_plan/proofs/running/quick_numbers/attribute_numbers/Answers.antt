@@ -8,7 +8,7 @@ use Rattle.td_plan.specs.Plans.{value_or}
 use Rattle.td_plan.specs.code.Quick.{IsQuick}
 use Rattle.td_value.specs.Values.{Tuple, integer}
 use Rattle.td_value.specs.code.Views.{values_of}
-use Rattle.td_plan.proofs.running.quick_rows.attribute_numbers.Goals as goal
+use Rattle.td_plan.proofs.running.quick_numbers.attribute_numbers.Goals as goal
 
 pub loop-row-preserved : goal.loop-row-preserved
 loop-row-preserved c =

@@ -4,7 +4,7 @@ use Rattle.td_plan.specs.Plans.{value_or}
 use Rattle.td_plan.specs.code.Quick.{AreInRows}
 use Rattle.td_value.specs.Values.{integer}
 use Rattle.td_value.specs.code.Views.{values_of}
-use Rattle.td_plan.proofs.running.quick_rows.attribute_numbers.Given as goal
+use Rattle.td_plan.proofs.running.quick_numbers.attribute_numbers.Given as goal
 
 abbrev pub invariant-loop-row : goal.invariant-loop-row
 invariant-loop-row l =

@@ -10,7 +10,7 @@ use Rattle.td_plan.specs.code.Quick.{AreQuick}
 use Rattle.td_plan.specs.code.QuickInside.{value_inside}
 use Rattle.td_plan.specs.code.StepViews.{dyadic_view, step_view, steps_view}
 use Rattle.td_value.specs.Values.{integer}
-use Rattle.td_plan.proofs.running.quick_rows.+quick_numbers.Goals as goal
+use Rattle.td_plan.proofs.running.quick_numbers.+quick_numbers.Goals as goal
 
 pub returns-in-Constant : goal.returns-in-Constant
 returns-in-Constant t c =

@@ -5,7 +5,7 @@ use Rattle.td_plan.proofs.QuickRows.{the_same}
 use Rattle.td_plan.specs.code.Quick.{IsQuick}
 use Rattle.td_tree.specs.Outcomes.{Valued}
 use Rattle.td_value.specs.Values.{integer}
-use Rattle.td_plan.proofs.running.quick_rows.constant_numbers.Goals as goal
+use Rattle.td_plan.proofs.running.quick_numbers.constant_numbers.Goals as goal
 
 pub returns-in_ok-vec-in-Some : goal.returns-in_ok-vec-in-Some
 returns-in_ok-vec-in-Some c = λ ts many.

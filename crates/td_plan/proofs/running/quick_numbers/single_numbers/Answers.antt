@@ -6,7 +6,7 @@ use Rattle.td_plan.proofs.QuickRows.{one_more}
 use Rattle.td_plan.specs.code.Quick.{IsQuick}
 use Rattle.td_plan.specs.code.QuickInside.{value_inside}
 use Rattle.td_value.specs.Values.{integer}
-use Rattle.td_plan.proofs.running.quick_rows.single_numbers.Goals as goal
+use Rattle.td_plan.proofs.running.quick_numbers.single_numbers.Goals as goal
 
 pub loop-row-preserved : goal.loop-row-preserved
 loop-row-preserved c = λ ps w sound m.

@@ -4,7 +4,7 @@ use Rattle.td_plan.specs.code.Memos.{IsSound, Parts}
 use Rattle.td_plan.specs.code.Quick.{AreInRows}
 use Rattle.td_plan.specs.code.QuickInside.{IsMemoInside, value_inside}
 use Rattle.td_value.specs.Values.{integer}
-use Rattle.td_plan.proofs.running.quick_rows.single_numbers.Given as goal
+use Rattle.td_plan.proofs.running.quick_numbers.single_numbers.Given as goal
 
 abbrev pub invariant-loop-row : goal.invariant-loop-row
 invariant-loop-row l =
