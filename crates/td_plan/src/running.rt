@@ -3,6 +3,7 @@ mod bound;
 mod counted;
 pub(crate) mod evaluator;
 mod extended;
+mod groups;
 pub(crate) mod hand;
 mod items;
 mod look_up;

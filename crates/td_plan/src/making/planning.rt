@@ -3,19 +3,15 @@
 ghost use Rattle.std.specs.Prelude.{◌+◌, IfOk, map, suc};
 ghost use Rattle.td_check.specs.Scopes.{entered_with};
 ghost use Rattle.td_check.specs.StaticTypes.{named_types};
-ghost use Rattle.td_eval.specs.AggregateValues.{summary_attributes};
 ghost use Rattle.td_plan.specs.code.PlannedParts.{AreFoundColumns, ArePlanned, ArePlansOfTyped};
 ghost use Rattle.td_plan.specs.code.PlannedParts.{IsBoxPlanned, IsExtensionPlanned, IsPlanned};
-ghost use Rattle.td_plan.specs.code.PlannedParts.{in_named, in_summaries, item_tree, part_tree};
+ghost use Rattle.td_plan.specs.code.PlannedParts.{in_named, part_tree};
 ghost use Rattle.td_plan.specs.code.Planners.{IsPlanner};
 ghost use Rattle.td_plan.specs.code.PlansBelow.{PlansBelow};
 ghost use Rattle.td_plan.specs.PlansOf.{IsPlanOfTyped};
 ghost use Rattle.td_plan.specs.code.StepViews.{step_view, steps_view};
-ghost use Rattle.td_plan.specs.code.TreeWeights.{expr_weight, item_weight, named_weight};
-ghost use Rattle.td_plan.specs.code.TreeWeights.{summaries_weight, weights};
-ghost use Rattle.td_tree.specs.code.TreeViews.{attributes_view, named_view, summaries_view};
-ghost use Rattle.td_tree.specs.code.TreeViews.{tree_view};
-ghost use Rattle.td_tree.specs.code.TreeViews.{trees_view};
+ghost use Rattle.td_plan.specs.code.TreeWeights.{expr_weight, named_weight, weights};
+ghost use Rattle.td_tree.specs.code.TreeViews.{named_view, tree_view, trees_view};
 ghost use Rattle.td_tree.specs.Trees as trees;
 
 use crate::making::closed::closed_step;
@@ -25,12 +21,9 @@ use crate::making::nodes::{
     name_step, postfix, relation_step, select_step, tuple_step,
 };
 use crate::making::planner::{Known, Planner};
-use crate::making::summaries::{
-    aggregates_of, attributes_of, count_step, summary_by_step, summary_step,
-};
 use crate::plan::step::{Dyadic, Monadic, Origin, Step};
 use std::alloc::AllocError;
-use td_tree::expression::{Attributes, Expr, NamedExpr, Summary};
+use td_tree::expression::{Expr, NamedExpr};
 use td_tree::operator::Aggregate;
 use td_types::heading::Heading;
 
@@ -109,32 +102,6 @@ where
         Ok(steps)
     }
 
-    /// The step of what an item is of in a tuple.
-    fn item_step(&self, item: &Summary) -> Result<Step, AllocError>
-        requires { PlansBelow C.database self.now (suc (item_weight item.now)) F.pre F.post }
-        ensures { IfOk result
-            (λ p. IsPlanOfTyped self.now.planner.now.scope (step_view p) (item_tree item.now)) }
-    {
-        match item {
-            Summary::Count(_) => Ok(count_step()),
-            Summary::Of(_, value, _) => self.step_of(value),
-        }
-    }
-
-    /// The steps of what items are of in a tuple, in the order written.
-    #[inline(never)]
-    fn item_steps(&self, items: &[Summary]) -> Result<Vec<Step>, AllocError>
-        requires { PlansBelow C.database self.now
-            (suc (summaries_weight (summaries_view items.now))) F.pre F.post }
-        ensures { ArePlanned self.now.planner.now.scope result (map item_tree items.now) }
-    {
-        let mut steps = Vec::with_capacity(self.planner.alloc, items.len())?;
-        for item in items {
-            steps.push(self.item_step(item)?)?;
-        }
-        Ok(steps)
-    }
-
     /// The new attributes that parts give to the tuple in scope; none where these have no types.
     fn part_columns(&self, parts: &[NamedExpr]) -> Result<Option<NewColumns>, AllocError>
         requires { PlansBelow C.database self.now (suc (named_weight (named_view parts.now)))
@@ -169,43 +136,6 @@ where
             inner: self.inner,
         }
         .part_columns(parts)
-    }
-
-    /// The new attributes that items give to a group; none where these have no types.
-    fn item_columns(&self, items: &[Summary]) -> Result<Option<NewColumns>, AllocError>
-        requires { PlansBelow C.database self.now
-            (suc (summaries_weight (summaries_view items.now))) F.pre F.post }
-        ensures { IfOk result (λ found. AreFoundColumns self.now.planner.now.scope found
-            (summary_attributes self.now.planner.now.scope (summaries_view items.now))
-            (in_summaries (summaries_view items.now))) }
-    {
-        let alloc = self.planner.alloc;
-        let Some(attributes) = attributes_of(alloc, &self.planner.scope, items)? else {
-            return Ok(None);
-        };
-        let columns = new_columns(attributes, self.item_steps(items))?;
-        Ok(Some(columns))
-    }
-
-    /// The same where a further tuple, of the heading, is in hand.
-    fn item_columns_inside(
-        &self,
-        heading: &Heading,
-        items: &[Summary],
-    ) -> Result<Option<NewColumns>, AllocError>
-        requires { PlansBelow C.database self.now
-            (suc (summaries_weight (summaries_view items.now))) F.pre F.post }
-        ensures { IfOk result (λ found.
-            AreFoundColumns (entered_with heading.now self.now.planner.now.scope) found
-            (summary_attributes (entered_with heading.now self.now.planner.now.scope)
-            (summaries_view items.now)) (in_summaries (summaries_view items.now))) }
-    {
-        let inner = self.planner.inner_planner(heading)?;
-        Planning {
-            planner: &inner,
-            inner: self.inner,
-        }
-        .item_columns(items)
     }
 
     /// The step of an aggregate of an expression in the tuples of an operand.
@@ -245,60 +175,6 @@ where
         };
         let slot = self.planner.next_slot();
         extension_step(self.boxed_step(operand), slot, columns)
-    }
-
-    /// The step of SUMMARIZE of an operand by the tuples of another relation.
-    #[inline(never)]
-    fn summarize_per_step(
-        &self,
-        operand: &Expr,
-        per: &Expr,
-        items: &[Summary],
-    ) -> Result<Step, AllocError>
-        requires { PlansBelow C.database self.now (suc (expr_weight operand.now
-            + expr_weight per.now + summaries_weight (summaries_view items.now))) F.pre F.post }
-        ensures { IsPlanned self.now.planner.now.scope result (trees.summarize_per
-            (tree_view operand.now) (tree_view per.now) (summaries_view items.now)) }
-    {
-        let Some(heading) = self.planner.heading_of(operand)? else {
-            return self.step_of(operand);
-        };
-        let Some(columns) = self.item_columns_inside(&heading, items)? else {
-            return self.step_of(operand);
-        };
-        let slot = self.planner.next_slot();
-        let aggregates = aggregates_of(self.planner.alloc, items);
-        summary_step(
-            self.boxed_step(operand),
-            self.boxed_step(per),
-            aggregates,
-            slot,
-            columns,
-        )
-    }
-
-    /// The step of SUMMARIZE of an operand by some of its attributes.
-    #[inline(never)]
-    fn summarize_by_step(
-        &self,
-        operand: &Expr,
-        by: &Attributes,
-        items: &[Summary],
-    ) -> Result<Step, AllocError>
-        requires { PlansBelow C.database self.now (suc (expr_weight operand.now
-            + summaries_weight (summaries_view items.now))) F.pre F.post }
-        ensures { IsPlanned self.now.planner.now.scope result (trees.summarize_by
-            (tree_view operand.now) (attributes_view by.now) (summaries_view items.now)) }
-    {
-        let Some(heading) = self.planner.heading_of(operand)? else {
-            return self.step_of(operand);
-        };
-        let Some(columns) = self.item_columns_inside(&heading, items)? else {
-            return self.step_of(operand);
-        };
-        let slot = self.planner.next_slot();
-        let aggregates = aggregates_of(self.planner.alloc, items);
-        summary_by_step(self.boxed_step(operand), by, aggregates, slot, columns)
     }
 
     /// The step of an expression, by those of its parts.

@@ -11,8 +11,10 @@ ghost use Rattle.td_plan.specs.code.Remembered.{AreRememberedInsideBoth, AreThre
 ghost use Rattle.td_plan.specs.code.Remembered.{IsRemembered, KeepsPart};
 ghost use Rattle.td_plan.specs.code.StepViews.{step_view};
 
+mod names;
 mod nodes;
 
+use crate::making::remember::names::{before, joined, one, reach_of, union_of, without};
 use crate::making::remember::nodes::{
     aggregate, bound, choice, dyadic, extend, look_up, monadic, restriction, select, summarize_by,
     summarize_per,
@@ -21,90 +23,6 @@ use crate::plan::step::Step;
 use std::alloc::{AllocError, Global};
 use std::mem;
 use td_tree::cause::Cause;
-
-// ---- the slots that steps name
-
-/// One slot.
-fn one(alloc: Global, slot: usize) -> Result<Vec<usize>, AllocError>
-    ensures { IfOk result (λ names. names.items ≡ slot ∷ []) }
-{
-    let mut names = Vec::new(alloc);
-    names.push(slot)?;
-    Ok(names)
-}
-
-/// Adds those of the others that are not there.
-fn add_all(names: &mut Vec<usize>, others: &[usize]) -> Result<(), AllocError>
-    ensures before { OnOk result (AreAmong names.old.items names.new.items) }
-    ensures others { OnOk result (AreAmong others.now names.new.items) }
-{
-    for other in others {
-        if !names.contains(other) {
-            names.push(*other)?;
-        }
-    }
-    Ok(())
-}
-
-/// Those of both.
-fn joined(first: Vec<usize>, second: &[usize]) -> Result<Vec<usize>, AllocError>
-    ensures first { IfOk result (λ names. AreAmong first.items names.items) }
-    ensures second { IfOk result (λ names. AreAmong second.now names.items) }
-{
-    let mut names = first;
-    add_all(&mut names, second)?;
-    Ok(names)
-}
-
-/// Those of all.
-fn union_of(alloc: Global, all: &[Vec<usize>]) -> Result<Vec<usize>, AllocError>
-    ensures { IfOk result (λ names. AreAllAmong (map (λ ns. ns.items) all.now) names.items) }
-{
-    let mut names = Vec::new(alloc);
-    for some in all {
-        add_all(&mut names, some)?;
-    }
-    Ok(names)
-}
-
-/// All but that slot.
-fn without(alloc: Global, slot: usize, names: &[usize]) -> Result<Vec<usize>, AllocError>
-    ensures { IfOk result (λ others. AreAmongBut slot names.now others.items) }
-{
-    let mut others = Vec::new(alloc);
-    for name in names {
-        if *name != slot {
-            others.push(*name)?;
-        }
-    }
-    Ok(others)
-}
-
-/// Those before the slot.
-fn before(alloc: Global, slot: usize, names: &[usize]) -> Result<Vec<usize>, AllocError>
-    ensures { IfOk result (λ others. AreAmongBefore slot names.now others.items) }
-{
-    let mut others = Vec::new(alloc);
-    for name in names {
-        if *name < slot {
-            others.push(*name)?;
-        }
-    }
-    Ok(others)
-}
-
-/// The first slot from which on there is none of these, if it is a number of a slot.
-fn reach_of(names: &[usize]) -> usize
-    ensures { result < 2 ^ 64 - 1 → AreBefore result names.now }
-{
-    let mut reach = 0;
-    for name in names {
-        if reach <= *name {
-            reach = name.saturating_add(1);
-        }
-    }
-    reach
-}
 
 // ---- parts
 

@@ -1,31 +1,39 @@
 //! The steps of SUMMARIZE.
-ghost use Rattle.std.specs.Prelude.{◌≡◌, IfNone, IfOk, IfSome, List, length, map, true};
+ghost use Rattle.std.specs.Prelude.{◌≡◌, ◌+◌, IfNone, IfOk, IfSome, List, length, map};
+ghost use Rattle.std.specs.Prelude.{suc, true};
 ghost use Rattle.td_check.specs.Scopes.{Scope, entered_with};
 ghost use Rattle.td_check.specs.StaticTypes.{type_of};
 ghost use Rattle.td_eval.specs.AggregateValues.{summary_attributes};
 ghost use Rattle.td_eval.specs.code.Totals.{asked_by};
+ghost use Rattle.td_plan.specs.code.PlannedParts.{AreFoundColumns, ArePlanned};
 ghost use Rattle.td_plan.specs.code.PlannedParts.{ArePlannedColumns, IsBoxPlanned, IsPlanned};
-ghost use Rattle.td_plan.specs.code.PlannedParts.{in_summaries};
+ghost use Rattle.td_plan.specs.code.PlannedParts.{in_summaries, item_tree};
+ghost use Rattle.td_plan.specs.code.PlansBelow.{PlansBelow};
 ghost use Rattle.td_plan.specs.PlansOf.{IsPlanOfTyped};
 ghost use Rattle.td_plan.specs.code.StepViews.{step_view};
+ghost use Rattle.td_plan.specs.code.TreeWeights.{expr_weight, item_weight};
+ghost use Rattle.td_plan.specs.code.TreeWeights.{summaries_weight};
 ghost use Rattle.td_plan.specs.SummaryItems.{aggregates_in};
 ghost use Rattle.td_tree.specs.Outcomes.{Valued};
-ghost use Rattle.td_tree.specs.code.TreeViews.{attributes_view, summaries_view};
+ghost use Rattle.td_tree.specs.code.TreeViews.{attributes_view, summaries_view, tree_view};
 ghost use Rattle.td_tree.specs.Trees as trees;
 ghost use Rattle.td_tree.specs.Trees.{Tree};
 ghost use Rattle.td_types.specs.Types as types;
 ghost use Rattle.td_types.specs.Types.{Attribute, Heading, pack};
 ghost use Rattle.td_types.specs.code.Views.{pairs_view};
 
-use crate::making::in_tuples::NewColumns;
+use crate::making::in_tuples::{NewColumns, new_columns};
+use crate::making::planner::{Known, Planner};
+use crate::making::planning::Planning;
 use crate::plan::step::Step;
 use std::alloc::{AllocError, Global};
 use td_check::scope::Scope;
 use td_eval::operators::summaries::{asked_by, item_attributes};
 use td_group::aggregates::Agg;
-use td_tree::expression::{Attributes, Summary};
+use td_tree::expression::{Attributes, Expr, Summary};
 use td_tree::fault::Fault;
 use td_tree::name::Name;
+use td_types::heading::Heading;
 use td_types::ty::Ty;
 use td_value::value::Value;
 
@@ -113,4 +121,126 @@ pub(crate) fn summary_by_step(
     let aggregates = aggregates?;
     let by = by.try_clone()?;
     Ok(Step::SummarizeBy(operand?, by, attributes, aggregates, slot, values))
+}
+
+impl<C: Known, F> Planning<'_, C, F>
+where
+    F: Fn(&Planner<'_, C>, &Expr) -> Result<Step, AllocError> + Copy,
+{
+    /// The step of what an item is of in a tuple.
+    fn item_step(&self, item: &Summary) -> Result<Step, AllocError>
+        requires { PlansBelow C.database self.now (suc (item_weight item.now)) F.pre F.post }
+        ensures { IfOk result
+            (λ p. IsPlanOfTyped self.now.planner.now.scope (step_view p) (item_tree item.now)) }
+    {
+        match item {
+            Summary::Count(_) => Ok(count_step()),
+            Summary::Of(_, value, _) => self.step_of(value),
+        }
+    }
+
+    /// The steps of what items are of in a tuple, in the order written.
+    #[inline(never)]
+    fn item_steps(&self, items: &[Summary]) -> Result<Vec<Step>, AllocError>
+        requires { PlansBelow C.database self.now
+            (suc (summaries_weight (summaries_view items.now))) F.pre F.post }
+        ensures { ArePlanned self.now.planner.now.scope result (map item_tree items.now) }
+    {
+        let mut steps = Vec::with_capacity(self.planner.alloc, items.len())?;
+        for item in items {
+            steps.push(self.item_step(item)?)?;
+        }
+        Ok(steps)
+    }
+
+    /// The new attributes that items give to a group; none where these have no types.
+    fn item_columns(&self, items: &[Summary]) -> Result<Option<NewColumns>, AllocError>
+        requires { PlansBelow C.database self.now
+            (suc (summaries_weight (summaries_view items.now))) F.pre F.post }
+        ensures { IfOk result (λ found. AreFoundColumns self.now.planner.now.scope found
+            (summary_attributes self.now.planner.now.scope (summaries_view items.now))
+            (in_summaries (summaries_view items.now))) }
+    {
+        let alloc = self.planner.alloc;
+        let Some(attributes) = attributes_of(alloc, &self.planner.scope, items)? else {
+            return Ok(None);
+        };
+        let columns = new_columns(attributes, self.item_steps(items))?;
+        Ok(Some(columns))
+    }
+
+    /// The same where a further tuple, of the heading, is in hand.
+    fn item_columns_inside(
+        &self,
+        heading: &Heading,
+        items: &[Summary],
+    ) -> Result<Option<NewColumns>, AllocError>
+        requires { PlansBelow C.database self.now
+            (suc (summaries_weight (summaries_view items.now))) F.pre F.post }
+        ensures { IfOk result (λ found.
+            AreFoundColumns (entered_with heading.now self.now.planner.now.scope) found
+            (summary_attributes (entered_with heading.now self.now.planner.now.scope)
+            (summaries_view items.now)) (in_summaries (summaries_view items.now))) }
+    {
+        let inner = self.planner.inner_planner(heading)?;
+        Planning {
+            planner: &inner,
+            inner: self.inner,
+        }
+        .item_columns(items)
+    }
+
+    /// The step of SUMMARIZE of an operand by the tuples of another relation.
+    #[inline(never)]
+    pub(crate) fn summarize_per_step(
+        &self,
+        operand: &Expr,
+        per: &Expr,
+        items: &[Summary],
+    ) -> Result<Step, AllocError>
+        requires { PlansBelow C.database self.now (suc (expr_weight operand.now
+            + expr_weight per.now + summaries_weight (summaries_view items.now))) F.pre F.post }
+        ensures { IsPlanned self.now.planner.now.scope result (trees.summarize_per
+            (tree_view operand.now) (tree_view per.now) (summaries_view items.now)) }
+    {
+        let Some(heading) = self.planner.heading_of(operand)? else {
+            return self.step_of(operand);
+        };
+        let Some(columns) = self.item_columns_inside(&heading, items)? else {
+            return self.step_of(operand);
+        };
+        let slot = self.planner.next_slot();
+        let aggregates = aggregates_of(self.planner.alloc, items);
+        summary_step(
+            self.boxed_step(operand),
+            self.boxed_step(per),
+            aggregates,
+            slot,
+            columns,
+        )
+    }
+
+    /// The step of SUMMARIZE of an operand by some of its attributes.
+    #[inline(never)]
+    pub(crate) fn summarize_by_step(
+        &self,
+        operand: &Expr,
+        by: &Attributes,
+        items: &[Summary],
+    ) -> Result<Step, AllocError>
+        requires { PlansBelow C.database self.now (suc (expr_weight operand.now
+            + summaries_weight (summaries_view items.now))) F.pre F.post }
+        ensures { IsPlanned self.now.planner.now.scope result (trees.summarize_by
+            (tree_view operand.now) (attributes_view by.now) (summaries_view items.now)) }
+    {
+        let Some(heading) = self.planner.heading_of(operand)? else {
+            return self.step_of(operand);
+        };
+        let Some(columns) = self.item_columns_inside(&heading, items)? else {
+            return self.step_of(operand);
+        };
+        let slot = self.planner.next_slot();
+        let aggregates = aggregates_of(self.planner.alloc, items);
+        summary_by_step(self.boxed_step(operand), by, aggregates, slot, columns)
+    }
 }

@@ -1,10 +1,8 @@
 //! What plans give in each tuple of a relation.
 ghost use Rattle.std.specs.Prelude.{◌≡◌, length, map, suc, ⊤};
-ghost use Rattle.std.specs.List.{zip};
 ghost use Rattle.td_algebra.specs.Columns.{columns_view};
 ghost use Rattle.td_eval.specs.code.NewColumns.{named_columns};
 ghost use Rattle.td_eval.specs.OperatorValues.{column_values, truth_value};
-ghost use Rattle.td_eval.specs.code.Totals.{total_of, total_view};
 ghost use Rattle.td_plan.specs.code.Hands.{slots_in, slots_of};
 ghost use Rattle.td_plan.specs.code.Memos.{AreSound, IsReady, IsReadyBelow, IsSound};
 ghost use Rattle.td_plan.specs.code.Memos.{Keeps, KeepsBelow};
@@ -17,18 +15,15 @@ ghost use Rattle.td_types.specs.code.Views.{pairs_view, type_view};
 use crate::plan::step::Step;
 use crate::running::evaluator::{Evaluator, InWorld};
 use crate::running::hand::{Hand, Inside, hand_inside};
-use crate::running::items::{aggregate_at, item_count, with_aggregate};
 use crate::running::memo::{Memo, forget};
 use crate::running::quick::{quick_number, quick_truth};
 use crate::running::quick_rows::{FEWEST, quick_truths};
 use td_algebra::extension::Column;
 use td_eval::rows::{named_column, truth_of, value_of_its_type};
-use td_group::aggregates::Agg;
 use td_tree::fault::Fault;
 use td_tree::gathering::Gathering;
 use td_tree::name::Name;
 use td_types::ty::Ty;
-use td_value::relation::Rel;
 use td_value::tuple::Tuple;
 use td_value::value::Value;
 
@@ -377,65 +372,5 @@ where
             causes.collect(&mut columns, named_column(name, ty, values))?;
         }
         causes.finish(columns)
-    }
-
-    // ---- groups
-
-    /// The values of a step in the tuples of each group.
-    #[inline(never)]
-    fn values_in_groups(
-        &self,
-        memo: &mut Memo,
-        inside: &Inside,
-        groups: &[(Tuple, Rel)],
-        step: &Step,
-    ) -> Result<Vec<Vec<Value>>, Fault>
-        requires below { ValuesBelow A.world self.now (suc (step_height step.now)) F.pre F.post }
-        requires ready { IsReadyBelow (A.world self.now.around.now) inside.now.slot
-            (slots_in inside.now.outer.items) memo.old (λ ps. IsSound ps step.now) }
-        ensures { KeepsBelow (A.world self.now.around.now) inside.now.slot
-            (slots_in inside.now.outer.items) memo.old memo.new (λ ps. IsSound ps step.now)
-            (Answers (λ vss. map (λ vs. vs.items) vss.items) result (gathered (map (λ g. gathered
-            (map (value_in (A.world self.now.around.now) (slots_in inside.now.outer.items)
-            inside.now.slot step.now) g.1.body)) groups.now))) }
-    {
-        let mut causes = Gathering::new();
-        let mut values = Vec::with_capacity(self.alloc, groups.len())?;
-        for (_, group) in groups {
-            let found = self.values_in_rows(memo, inside, group.rows(), step);
-            causes.collect(&mut values, found)?;
-        }
-        causes.finish(values)
-    }
-
-    /// What each aggregate is of in the groups, by the step beside it.
-    #[inline(never)]
-    pub(crate) fn totals(
-        &self,
-        memo: &mut Memo,
-        inside: &Inside,
-        groups: &[(Tuple, Rel)],
-        aggregates: &[Agg],
-        steps: &[Step],
-    ) -> Result<Vec<(Agg, Vec<Vec<Value>>)>, Fault>
-        requires below { ValuesBelow A.world self.now (suc (steps_height steps.now)) F.pre F.post }
-        requires ready { IsReadyBelow (A.world self.now.around.now) inside.now.slot
-            (slots_in inside.now.outer.items) memo.old (λ ps. AreSound ps steps.now) }
-        ensures { KeepsBelow (A.world self.now.around.now) inside.now.slot
-            (slots_in inside.now.outer.items) memo.old memo.new (λ ps. AreSound ps steps.now)
-            (Answers (λ ts. map total_view ts.items) result (gathered (map (total_of groups.now)
-            (zip aggregates.now (values_in (A.world self.now.around.now)
-            (slots_in inside.now.outer.items) inside.now.slot steps.now))))) }
-    {
-        let mut causes = Gathering::new();
-        let count = item_count(aggregates, steps);
-        let mut totals = Vec::with_capacity(self.alloc, count)?;
-        for place in 0..count {
-            let asked = aggregate_at(aggregates, place);
-            let values = self.values_in_groups(memo, inside, groups, &steps[place]);
-            let total = with_aggregate(asked, values);
-            causes.collect(&mut totals, total)?;
-        }
-        causes.finish(totals)
     }
 }

@@ -3,7 +3,7 @@ use Rattle.std.proofs.lemmas.List.{map_more, take_all}
 use Rattle.std.specs.Global.{Vec}
 use Rattle.td_plan.proofs.NamedSlots.{all_among_next}
 use Rattle.td_plan.specs.code.Remembered.{AreAllAmong, AreAmong}
-use Rattle.td_plan.proofs.making.remember.union_of.Goals as goal
+use Rattle.td_plan.proofs.making.remember.names.union_of.Goals as goal
 
 pub loop-some-preserved : goal.loop-some-preserved
 loop-some-preserved c =

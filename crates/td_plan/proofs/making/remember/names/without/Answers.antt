@@ -3,8 +3,8 @@ use Rattle.std.proofs.lemmas.List.{take_all}
 use Rattle.std.proofs.lemmas.List.Elements.{Contains-push}
 use Rattle.td_plan.proofs.NamedSlots.{but_more, but_next}
 use Rattle.td_plan.specs.code.Remembered.{AreAmongBut}
-use Rattle.td_plan.proofs.making.remember.without.Goals as goal
-use Rattle.td_plan.proofs.making.remember.without.Goals.{then-name-slot+in_ok-push, else-name-slot}
+use Rattle.td_plan.proofs.making.remember.names.without.Goals as goal
+use Rattle.td_plan.proofs.making.remember.names.without.Goals.{then-name-slot+in_ok-push, else-name-slot}
 
 pub loop-name-preserved : goal.loop-name-preserved
 loop-name-preserved c =

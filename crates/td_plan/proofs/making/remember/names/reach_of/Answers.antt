@@ -2,8 +2,8 @@ use Rattle.std.proofs.Common.{◌^◌, ◌-◌, ◌<◌, ◌≤◌, ◌≡◌, a
 use Rattle.std.proofs.lemmas.List.{take_all}
 use Rattle.td_plan.proofs.NamedSlots.{before_next}
 use Rattle.td_plan.specs.code.Remembered.{AreBefore}
-use Rattle.td_plan.proofs.making.remember.reach_of.Goals as goal
-use Rattle.td_plan.proofs.making.remember.reach_of.Goals.{then-reach-name, else-reach-name}
+use Rattle.td_plan.proofs.making.remember.names.reach_of.Goals as goal
+use Rattle.td_plan.proofs.making.remember.names.reach_of.Goals.{then-reach-name, else-reach-name}
 
 pub loop-name-preserved : goal.loop-name-preserved
 loop-name-preserved c =

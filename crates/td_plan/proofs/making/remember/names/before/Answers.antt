@@ -3,8 +3,8 @@ use Rattle.std.proofs.lemmas.List.{take_all}
 use Rattle.std.proofs.lemmas.List.Elements.{Contains-push}
 use Rattle.td_plan.proofs.NamedSlots.{before_more, before_then}
 use Rattle.td_plan.specs.code.Remembered.{AreAmongBefore}
-use Rattle.td_plan.proofs.making.remember.before.Goals as goal
-use Rattle.td_plan.proofs.making.remember.before.Goals.{then-name-slot+in_ok-push, else-name-slot}
+use Rattle.td_plan.proofs.making.remember.names.before.Goals as goal
+use Rattle.td_plan.proofs.making.remember.names.before.Goals.{then-name-slot+in_ok-push, else-name-slot}
 
 pub loop-name-preserved : goal.loop-name-preserved
 loop-name-preserved c =

@@ -5,8 +5,8 @@ use Rattle.std.proofs.lemmas.List.Elements.{Contains-push}
 use Rattle.std.specs.List.{Contains}
 use Rattle.td_plan.proofs.NamedSlots.{among_itself, among_more, among_next, no_slot}
 use Rattle.td_plan.specs.code.Remembered.{AreAmong}
-use Rattle.td_plan.proofs.making.remember.add_all.Goals as goal
-use Rattle.td_plan.proofs.making.remember.add_all.Goals.{then-not-contains+in_ok-push, else-not-contains}
+use Rattle.td_plan.proofs.making.remember.names.add_all.Goals as goal
+use Rattle.td_plan.proofs.making.remember.names.add_all.Goals.{then-not-contains+in_ok-push, else-not-contains}
 
 pub loop-other-init : goal.loop-other-init
 loop-other-init c = (among_itself c.args.names.now.items, no_slot c.args.names.now.items)
