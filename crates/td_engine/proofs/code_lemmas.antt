@@ -1,3 +1,4 @@
+pub mod AddedTuples
 pub mod Advances
 pub mod DeletedTuples
 pub mod Done
@@ -7,6 +8,7 @@ pub mod GivenChanges
 pub mod KeysInTurn
 pub mod LaterChecks
 pub mod LeftTuples
+pub mod NamesAmong
 pub mod NewChecks
 pub mod OneTarget
 pub mod Opens

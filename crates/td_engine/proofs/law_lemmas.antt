@@ -12,6 +12,7 @@ pub mod DumpScript
 pub mod DumpSplit
 pub mod EachOf
 pub mod Effects
+pub mod Emptiness
 pub mod Gifted
 pub mod GiftsInTurn
 pub mod GivenRelations
@@ -39,6 +40,7 @@ pub mod SettingNames
 pub mod Settled
 pub mod Sources
 pub mod SpelledParts
+pub mod StayingConditions
 pub mod TestsAfterDrops
 pub mod Transactions
 pub mod TypedAfter

@@ -1,3 +1,4 @@
+pub mod Additions
 pub mod Assignments
 pub mod Changes
 pub mod Checks

@@ -1,6 +1,8 @@
+pub mod AddedTuples
 pub mod Carried
 pub mod Gifts
 pub mod Plannable
+pub mod Restrictions
 pub mod Stages
 pub mod Steps
 pub mod Transactions

@@ -7,6 +7,7 @@ ghost use Rattle.td_catalog.specs.Database.{with_body};
 ghost use Rattle.td_catalog.specs.TypedDatabases.{IsTyped};
 ghost use Rattle.td_engine.specs.Assignments.{assigned_database, given_by, target_of};
 ghost use Rattle.td_engine.specs.Assignments.{with_assignment, with_gift, with_gifts};
+ghost use Rattle.td_engine.specs.code.AddedTuples.{AreTestedByAdditions};
 ghost use Rattle.td_engine.specs.code.Carried.{Changes, IsAdmitted, Passes};
 ghost use Rattle.td_engine.specs.Changes.{AreChanges, AreTypedChanges, IsChangeOf, IsTypedChange};
 ghost use Rattle.td_engine.specs.Changes.{IsOfHeading, changed_by, given_as};
@@ -23,7 +24,9 @@ ghost use Rattle.td_eval.specs.ReachedRelvars.{reached_from};
 ghost use Rattle.td_tree.specs.Outcomes.{Answers};
 ghost use Rattle.td_tree.specs.code.TreeViews.{assignment_view, statement_view};
 ghost use Rattle.td_tree.specs.Trees.{assign_all};
+ghost use Rattle.td_value.specs.Values.{IsRelation};
 
+use crate::added::Added;
 use crate::change::Change;
 use crate::checks::{check_after, entry_keys_hold, reached_from};
 use crate::definitions::failure_of;
@@ -219,6 +222,25 @@ fn only_one(given: &IndexMap<Name, Change>) -> Option<(&Name, &Change)>
     }
 }
 
+/// What came into the one target, if it is the only one.
+fn added_alone(given: &IndexMap<Name, Change>) -> Option<Added<'_>>
+    ensures { IfSome result (λ a. (c : Change)
+        × (given.now.entries ≡ (a.relvar.now, c) ∷ []) × (a.tuples.now ≡ c.add)
+        × IsRelation c.add) }
+{
+    match only_one(given) {
+        Some((relvar, change)) => {
+            change.add.heading().reveal();
+            change.add.reveal();
+            Some(Added {
+                relvar,
+                tuples: &change.add,
+            })
+        }
+        None => None,
+    }
+}
+
 /// Changes a base relvar: refused where a key does not hold of it then.
 fn put<B: Body>(catalog: &mut Catalog<B>, name: &Name, change: &Change) -> Result<(), Failure>
     requires { IsTypedChange catalog.old.database (name.now, change.now) }
@@ -309,10 +331,12 @@ fn settle_gifts<B: Body>(
     requires elsewhere { PassesElsewhere
         (reached_from (keys_of given.now.entries) catalog.now.database.virtuals)
         catalog.now.database }
+    requires added { AreTestedByAdditions catalog.now.database given.now.entries }
     ensures { Changes catalog.now.database result (checked_effect catalog.now.database) }
 {
     let reached = reached_from(catalog, names_of_all(alloc, given)?)?;
-    check_after(alloc, catalog, &reached)
+    let added = added_alone(given);
+    check_after(alloc, catalog, &reached, added.as_ref())
 }
 
 /// Lets the targets take what they were given: refused where a key does not hold then. One target

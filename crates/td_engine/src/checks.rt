@@ -1,11 +1,13 @@
 //! The keys of virtual relvars and the constraints of a catalogue, after a definition or an
 //! assignment.
-ghost use Rattle.std.specs.Prelude.{◌≡◌, [], IfOk, OnOk, map};
+ghost use Rattle.std.specs.Prelude.{◌≡◌, [], IfOk, IfSome, OnOk, map};
 ghost use Rattle.std.specs.List.{AllByRecursion};
 ghost use Rattle.td_catalog.specs.code.CatalogViews.{IsEntry, entry_keys, virtual_view};
 ghost use Rattle.td_catalog.specs.Database.{Database, NamedConstraint, VirtualRelvar};
 ghost use Rattle.td_catalog.specs.Database.{named_constraint, with_constraint, with_virtual};
+ghost use Rattle.td_engine.specs.Assignments.{source_world};
 ghost use Rattle.td_engine.specs.code.Carried.{Changes, Passes};
+ghost use Rattle.td_engine.specs.code.AddedTuples.{AreTestedBy, IsTestedBy};
 ghost use Rattle.td_engine.specs.Checks.{BasesHold, constraint_check, derived_check};
 ghost use Rattle.td_engine.specs.Checks.{first_refusal};
 ghost use Rattle.td_engine.specs.Checks.{keys_hold, refusal_unless_passed, virtual_check};
@@ -13,7 +15,7 @@ ghost use Rattle.td_engine.specs.Checks.{virtual_test};
 ghost use Rattle.td_engine.specs.LeftOut.{PassesElsewhere, PassesUnlessNamed};
 ghost use Rattle.td_engine.specs.LeftOut.{PassesUnlessReached};
 ghost use Rattle.td_engine.specs.Machine.{checked_effect};
-ghost use Rattle.td_engine.specs.code.Plannable.{IsPlannable};
+ghost use Rattle.td_engine.specs.code.Plannable.{IsPlannable, IsPlannableSource};
 ghost use Rattle.td_engine.specs.Refusals.{by_constraint, by_key};
 ghost use Rattle.td_eval.specs.DatabaseWorlds.{world_of};
 ghost use Rattle.td_eval.specs.OperatorValues.{on_relation, truth_value};
@@ -25,7 +27,9 @@ ghost use Rattle.td_tree.specs.code.TreeViews.{tree_view};
 ghost use Rattle.td_tree.specs.Trees as trees;
 ghost use Rattle.td_value.specs.Values.{Val};
 
+use crate::added::{Added, asks_each};
 use crate::refusal::{Failure, Refusal};
+use crate::updates::assigned_value;
 use std::alloc::{AllocError, Global};
 use td_body::body::Body;
 use td_body::keys::key_holds;
@@ -228,24 +232,71 @@ fn test_constraint<B: Body>(
     constraint_passed(name, value(alloc, catalog, condition.tree()))
 }
 
+/// A constraint is TRUE where the relvar's name means the tuples that came into it alone.
+fn test_added<B: Body>(
+    alloc: Global,
+    catalog: &Catalog<B>,
+    added: &Added<'_>,
+    name: &Name,
+    condition: &DefiningExpression,
+) -> Result<(), Failure>
+    requires { IsPlannableSource catalog.now.database added.now.relvar.now added.now.tuples.now
+        condition.now }
+    ensures { Passes result (constraint_check
+        (source_world catalog.now.database added.now.relvar.now added.now.tuples.now)
+        (named_constraint name.now condition.now)) }
+{
+    let test = assigned_value(alloc, catalog, added.relvar, added.tuples, condition.tree());
+    constraint_passed(name, test)
+}
+
+/// A constraint is TRUE: one that asks of each tuple of the relvar that was changed is tested by
+/// what came into it.
+fn test_after<B: Body>(
+    alloc: Global,
+    catalog: &Catalog<B>,
+    reached: &MarkedNames,
+    added: Option<&Added<'_>>,
+    name: &Name,
+    condition: &DefiningExpression,
+) -> Result<(), Failure>
+    requires plannable { IsPlannable catalog.now.database condition.now }
+    requires added { IfSome added (IsTestedBy reached.now catalog.now.database
+        (named_constraint name.now condition.now)) }
+    ensures { Passes result (constraint_check (world_of catalog.now.database)
+        (named_constraint name.now condition.now)) }
+{
+    let Some(added) = added else {
+        return test_constraint(alloc, catalog, name, condition);
+    };
+    if asks_each(alloc, condition.tree(), added.relvar, reached) {
+        test_added(alloc, catalog, added, name, condition)
+    } else {
+        test_constraint(alloc, catalog, name, condition)
+    }
+}
+
 /// A constraint is TRUE, which is tested where one of those reached is named in it.
 fn check_constraint<B: Body>(
     alloc: Global,
     catalog: &Catalog<B>,
     reached: &MarkedNames,
+    added: Option<&Added<'_>>,
     name: &Name,
     condition: &DefiningExpression,
 ) -> Result<(), Failure>
     requires plannable { IsPlannable catalog.now.database condition.now }
     requires elsewhere { PassesUnlessNamed reached.now (world_of catalog.now.database)
         (named_constraint name.now condition.now) }
+    requires added { IfSome added (IsTestedBy reached.now catalog.now.database
+        (named_constraint name.now condition.now)) }
     ensures { Passes result (constraint_check (world_of catalog.now.database)
         (named_constraint name.now condition.now)) }
 {
     if !condition.names_any(reached) {
         return Ok(());
     }
-    test_constraint(alloc, catalog, name, condition)
+    test_after(alloc, catalog, reached, added, name, condition)
 }
 
 /// The constraints in which one of those reached is named are TRUE.
@@ -253,10 +304,12 @@ fn check_constraints<B: Body>(
     alloc: Global,
     catalog: &Catalog<B>,
     reached: &MarkedNames,
+    added: Option<&Added<'_>>,
 ) -> Result<(), Failure>
-    requires { AllByRecursion
+    requires elsewhere { AllByRecursion
         (PassesUnlessNamed reached.now (world_of catalog.now.database))
         catalog.now.database.constraints }
+    requires added { IfSome added (AreTestedBy reached.now catalog.now.database) }
     ensures { Passes result
         (first_refusal (constraint_check (world_of catalog.now.database))
         catalog.now.database.constraints) }
@@ -266,7 +319,7 @@ fn check_constraints<B: Body>(
         let Some((name, condition)) = catalog.nth_constraint(place) else {
             return Ok(());
         };
-        match check_constraint(alloc, catalog, reached, name, condition) {
+        match check_constraint(alloc, catalog, reached, added, name, condition) {
             Ok(()) => {}
             Err(failure) => return Err(failure),
         }
@@ -279,12 +332,14 @@ fn check_derived<B: Body>(
     alloc: Global,
     catalog: &Catalog<B>,
     reached: &MarkedNames,
+    added: Option<&Added<'_>>,
 ) -> Result<(), Failure>
-    requires { PassesElsewhere reached.now catalog.now.database }
+    requires elsewhere { PassesElsewhere reached.now catalog.now.database }
+    requires added { IfSome added (AreTestedBy reached.now catalog.now.database) }
     ensures { Passes result (derived_check catalog.now.database) }
 {
     match check_virtuals(alloc, catalog, reached) {
-        Ok(()) => check_constraints(alloc, catalog, reached),
+        Ok(()) => check_constraints(alloc, catalog, reached, added),
         Err(failure) => Err(failure),
     }
 }
@@ -295,12 +350,14 @@ pub(crate) fn check_after<B: Body>(
     alloc: Global,
     catalog: &Catalog<B>,
     reached: &MarkedNames,
+    added: Option<&Added<'_>>,
 ) -> Result<(), Failure>
     requires held { BasesHold catalog.now.database }
     requires elsewhere { PassesElsewhere reached.now catalog.now.database }
+    requires added { IfSome added (AreTestedBy reached.now catalog.now.database) }
     ensures { Changes catalog.now.database result (checked_effect catalog.now.database) }
 {
-    check_derived(alloc, catalog, reached)
+    check_derived(alloc, catalog, reached, added)
 }
 
 // ---- what is reached

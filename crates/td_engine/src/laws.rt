@@ -1,5 +1,6 @@
 //! Laws of the set machine: each function has its contract alone.
 ghost use Rattle.std.specs.Prelude.{◌≡◌, ◌≢◌, Bool, List, None};
+ghost use Rattle.td_engine.specs.Additions.{ConditionsStayInTuples, EmptinessIsOfAdditions};
 ghost use Rattle.td_engine.specs.Machine.{Progress, Runs, State, Step, Steps};
 ghost use Rattle.td_engine.specs.Rebuilding.{DumpsRebuild};
 ghost use Rattle.td_engine.specs.LegalityLaws.{AcceptedStatementsKeepLegality, RunsKeepLegality};
@@ -45,4 +46,16 @@ pub fn runs_keep_legality()
 /// The dump of a legal database, run from nothing, makes that database.
 pub fn dumps_rebuild()
     ensures { DumpsRebuild }
+{}
+
+/// After a change of a relation, whether any of its tuples meets a condition that none met before
+/// depends on those that came in.
+pub fn emptiness_is_of_additions()
+    ensures { EmptinessIsOfAdditions }
+{}
+
+/// A condition that names nothing which a change of a base relvar reaches has the value that it had
+/// in each tuple.
+pub fn conditions_stay_in_tuples()
+    ensures { ConditionsStayInTuples }
 {}

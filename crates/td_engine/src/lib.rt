@@ -1,6 +1,7 @@
 //! The engine: statements over a database, from bytes to bytes.
 #![tactic(auto)]
 
+mod added;
 pub mod answer;
 mod assignments;
 mod bases;

@@ -79,7 +79,7 @@ pub(crate) fn relation_of(target: &Rel, answer: Result<Value, Fault>) -> Result<
 }
 
 /// The value of an expression, where the name of the target means its relation so far.
-fn assigned_value<'a, B: Body>(
+pub(crate) fn assigned_value<'a, B: Body>(
     alloc: Global,
     catalog: &'a Catalog<B>,
     target: &'a Name,

@@ -9,13 +9,13 @@ use Rattle.td_check.specs.StaticTypes.{named_types, type_of}
 use Rattle.td_engine.proofs.law_lemmas.Admitted.{both_asked}
 use Rattle.td_engine.proofs.code_lemmas.DeletedTuples.{same_world}
 use Rattle.td_engine.proofs.law_lemmas.GivenValues.{database_gives, source_gives}
-use Rattle.td_engine.proofs.law_lemmas.TypedGifts.{AreChecked, checked_condition, checked_setting_condition, checked_settings, checked_source, chosen_like, is_base, statement_each_checked, typed_gift}
+use Rattle.td_engine.proofs.law_lemmas.TypedGifts.{AreChecked, checked_condition, checked_setting_condition, checked_settings, checked_source, chosen_like, is_base, statement_each_checked}
 use Rattle.td_engine.proofs.law_lemmas.WrittenStatements.{AreWritten, statement_written}
 use Rattle.td_engine.specs.Assignments.{chosen_for, source_world, target_of}
 use Rattle.td_engine.specs.code.Carried.{IsAdmitted}
 use Rattle.td_engine.specs.code.Gifts.{IsGift}
 use Rattle.td_engine.specs.Legality.{IsLegal}
-use Rattle.td_engine.specs.code.Plannable.{ArePlannableSettings, IsAdmittedAssignment, IsPlannable, IsPlannableAssignment, IsPlannableConditionIf, IsPlannableIf, IsPlannableSource, IsWrittenIf}
+use Rattle.td_engine.specs.code.Plannable.{ArePlannableSettings, IsAdmittedAssignment, IsPlannable, IsPlannableAssignment, IsPlannableConditionIf, IsPlannableIf, IsPlannableSource}
 use Rattle.td_eval.proofs.code_lemmas.KeepsGathered.{all_from_members}
 use Rattle.td_eval.proofs.code_lemmas.KeepsRelations.{IsTypedRelation, value_from_typed}
 use Rattle.td_eval.proofs.law_lemmas.KnownRelvars.{known_as_base}
@@ -28,7 +28,6 @@ use Rattle.td_tree.specs.declared.statement.Assignment as code
 use Rattle.td_tree.specs.Outcomes.{Valued, value_if, with_value}
 use Rattle.td_tree.specs.code.TreeViews.{assignment_view}
 use Rattle.td_tree.specs.Trees.{Assignment, NamedTrees, Tree, assign, assign_all, delete, disjoint_insert, included_delete, insert, name, restriction, update}
-use Rattle.td_tree.specs.WrittenTrees.{IsWritten}
 use Rattle.td_types.proofs.OutcomeLaws.{value_of_test, value_of_with}
 use Rattle.td_types.specs.code.TypeCode.{unpack_pack}
 use Rattle.td_types.specs.Types.{Heading, Type', boolean, pack, relation}

@@ -9,11 +9,10 @@ use Rattle.td_tree.specs.Names.{IsName}
 use Rattle.td_tree.specs.StatementGrammar as s
 use Rattle.td_tree.specs.StatementGrammar.{AssignmentSpelling, BodySpelling, ConstraintPart, InitPart, StatementSpelling, WherePart, constraint_part, init_part, where_part}
 use Rattle.td_tree.specs.Trees.{Assignment, Statement, Tree, assign_all, define_base, define_constraint, define_type, define_virtual, write}
-use Rattle.td_types.specs.TypeLists.{DeclaredType}
-use Rattle.td_catalog.specs.Database.{Database, NamedConstraint, VirtualRelvar}
+use Rattle.td_catalog.specs.Database.{Database, NamedConstraint}
 use Rattle.td_engine.proofs.law_lemmas.EachOf.{all_follow}
 use Rattle.td_engine.specs.code.Plannable.{IsWrittenAssignment, IsWrittenIf}
-use Rattle.td_engine.specs.Legality.{AreSpelled, IsSpelledExpression, IsSpelledIf}
+use Rattle.td_engine.specs.Legality.{AreSpelled, IsSpelledExpression}
 use Rattle.td_engine.proofs.law_lemmas.WrittenSpellings.{AreOfTokens, attributes_written, back, front, heading_written, inside, of_tokens, settings_written, written}
 use Rattle.td_tree.specs.WrittenTrees.{HaveNames, IsWritten}
 

@@ -1,10 +1,13 @@
-use Rattle.std.proofs.Common.{refl, subst, sym}
+use Rattle.std.proofs.Common.{◌≡◌, ◌∙◌, ◌∷◌, [], ap, refl, subst, sym}
 use Rattle.td_catalog.specs.Database.{Database}
 use Rattle.td_engine.proofs.law_lemmas.GiftsInTurn.{bases_refused}
 use Rattle.td_engine.proofs.law_lemmas.Settled.{bases_hold}
 use Rattle.td_engine.specs.Assignments.{with_gifts}
 use Rattle.td_engine.specs.code.Carried.{Changes}
-use Rattle.td_engine.specs.Changes.{given_in}
+use Rattle.td_engine.specs.Changes.{AreTypedChanges, given_as, given_in}
+use Rattle.td_catalog.specs.TypedDatabases.{IsTyped}
+use Rattle.td_engine.proofs.code_lemmas.AddedTuples.{additions}
+use Rattle.td_engine.specs.Additions.{AreAdditions}
 use Rattle.td_engine.specs.Checks.{BasesHold}
 use Rattle.std.specs.Map.{keys_of}
 use Rattle.td_engine.proofs.law_lemmas.TypedAfter.{gifts_typed}
@@ -28,6 +31,15 @@ settle_gifts-requires-clause-elsewhere g c =
     subst (λ (m : Database). PassesElsewhere (reached_from (keys_of es) m.virtuals) m) (sym c.in-Ok.ensures.next)
     (subst (λ names. PassesElsewhere (reached_from names db.virtuals) (with_gifts given db)) (same_targets db es)
     (gifts_pass_elsewhere db given c.requires.legal (gifts_typed db given c.requires.legal c.requires.typed)))
+
+pub settle_gifts-requires-clause-added : goal.settle_gifts-requires-clause-added
+settle_gifts-requires-clause-added g c = λ relvar change is is_relation.
+    let db = c.args.catalog.now.database in
+    let es = c.args.given.now.entries in
+    let only : with_gifts (given_in db es) db ≡ with_gifts ((relvar, given_as db relvar change) ∷ []) db = ap (λ fs. with_gifts (given_in db fs) db) is in
+    let typed = subst IsTyped only (gifts_typed db (given_in db es) c.requires.legal c.requires.typed) in
+    subst (λ (m : Database). AreAdditions (reached_from (relvar ∷ []) m.virtuals) m (relvar, change.add)) (sym (c.in-Ok.ensures.next ∙ only))
+    (additions db c.requires.legal relvar change (subst (AreTypedChanges db) is c.requires.gifts).0 is_relation typed)
 
 pub returns-in-Ok-clause-change : goal.returns-in-Ok-clause-change
 returns-in-Ok-clause-change g c =

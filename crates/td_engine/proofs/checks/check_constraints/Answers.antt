@@ -4,6 +4,7 @@ use Rattle.td_engine.specs.Checks.{constraint_check}
 use Rattle.td_engine.specs.LeftOut.{PassesUnlessNamed}
 use Rattle.td_engine.proofs.law_lemmas.EachOf.{of_place}
 use Rattle.td_engine.proofs.law_lemmas.InOrder.{passed_next, refusal_at}
+use Rattle.td_engine.proofs.code_lemmas.AddedTuples.{tested_at}
 use Rattle.td_engine.proofs.code_lemmas.Plannables.{constraint_plannable}
 use Rattle.td_eval.specs.DatabaseWorlds.{world_of}
 use Rattle.td_engine.proofs.checks.check_constraints.Goals as goal
@@ -17,7 +18,13 @@ pub check_constraint-requires-clause-elsewhere : goal.check_constraint-requires-
 check_constraint-requires-clause-elsewhere g c =
     let db = c.args.catalog.now.database in
     of_place (PassesUnlessNamed c.args.reached.now (world_of db)) db.constraints c.loop-place.place (named_constraint c.in-Some.name.now c.in-Some.condition.now)
-    c.requires (sym c.in-Some.ensures)
+    c.requires.elsewhere (sym c.in-Some.ensures)
+
+pub check_constraint-requires-clause-added : goal.check_constraint-requires-clause-added
+check_constraint-requires-clause-added g c =
+    let db = c.args.catalog.now.database in
+    tested_at c.args.reached.now db c.loop-place.place (named_constraint c.in-Some.name.now c.in-Some.condition.now) c.args.added
+    (sym c.in-Some.ensures) c.requires.added
 
 pub returns-in-Err : goal.returns-in-Err
 returns-in-Err g c =

@@ -1,0 +1,68 @@
+-- Constraints that may be tested by the tuples that come into a relvar: they ask of each of its tuples, by a condition that names nothing
+-- which a change of it reaches (this project's own).
+use Rattle.std.specs.Prelude.{◌≡◌, ℕ, Bool, true, false, List, [], ◌∷◌, Some}
+use Rattle.std.specs.List.{AllByRecursion}
+use Rattle.td_algebra.specs.Membership.{IsIn}
+use Rattle.td_body.specs.Bodies.{after_change}
+use Rattle.td_catalog.specs.Database.{BaseRelvar, Database, NamedConstraint, base_named, database_scope}
+use Rattle.td_catalog.specs.NamedRelvars.{names_any}
+use Rattle.td_catalog.specs.TypedDatabases.{IsTyped}
+use Rattle.td_engine.specs.Assignments.{source_world, with_gifts}
+use Rattle.td_engine.specs.Checks.{constraint_check, refusal_unless_passed}
+use Rattle.td_engine.specs.Legality.{IsLegal}
+use Rattle.td_engine.specs.Refusals.{Refusal}
+use Rattle.td_eval.specs.DatabaseWorlds.{world_of}
+use Rattle.td_eval.specs.OperatorValues.{measure_value, restricted_value, truth_value}
+use Rattle.td_eval.specs.ReachedRelvars.{reached_from}
+use Rattle.td_eval.specs.TreeValues.{value_of}
+use Rattle.td_eval.specs.UnfailingValues.{GivesValues}
+use Rattle.td_eval.specs.ValueLaws.{IsChecked}
+use Rattle.td_eval.specs.ValueTypes.{IsTypedTuple}
+use Rattle.td_tree.specs.declared.operator.Measure.TheVariants as measures
+use Rattle.td_tree.specs.Outcomes.{Outcome, Valued, with_value}
+use Rattle.td_tree.specs.Trees.{Tree, measure, name, restriction}
+use Rattle.td_value.specs.Values.{Relation, Tuple, Val, heading_of}
+
+-- the expression is that no tuple of the relvar meets a condition that names none of those that are reached
+pub record AsksEach (relvar : List ℕ) (reached : List (List ℕ)) (e : Tree) : Type 0 where
+  pub condition : Tree
+  pub is : e ≡ measure measures.IsEmpty (restriction (name relvar) condition)
+  pub apart : names_any reached condition ≡ false
+
+-- the test of such a constraint comes to the same where the relvar's name means the tuples that came in alone
+abbrev pub PassesAsAdded : List (List ℕ) → Database → List ℕ × Relation → NamedConstraint → Type 0
+PassesAsAdded reached db added c =
+    AsksEach added.0 reached c.tree → constraint_check (source_world db added.0 added.1) c ≡ constraint_check (world_of db) c
+
+-- what came into a relvar, by which such constraints may be tested
+pub record AreAdditions (reached : List (List ℕ)) (db : Database) (added : List ℕ × Relation) : Type 0 where
+  pub gives : GivesValues (source_world db added.0 added.1) (database_scope db)
+  pub passes : AllByRecursion (PassesAsAdded reached db added) db.constraints
+
+-- whether no tuple of a relation meets a condition, which has these values
+abbrev pub emptiness : (Tuple → Outcome Val) → Relation → Outcome Bool
+emptiness f r = truth_value (with_value (restricted_value f r) (measure_value measures.IsEmpty))
+
+-- ---- laws
+
+-- where no tuple of a relation met the condition before, and its tuples have the same values still, the test comes after a change
+-- to what it comes to over what came in
+abbrev pub EmptinessIsOfAdditions : Type 0
+EmptinessIsOfAdditions =
+    (refusal : Refusal) (before after there : Tuple → Outcome Val) (old out add : Relation)
+    → ((t : Tuple) → IsIn t old → after t ≡ before t) → ((t : Tuple) → IsIn t add → there t ≡ after t)
+    → emptiness before old ≡ Valued true
+    → refusal_unless_passed refusal (emptiness after (after_change out add old)) ≡ refusal_unless_passed refusal (emptiness there add)
+
+-- a condition that names nothing which a change of a base relvar reaches has in each tuple of its heading the value that it had, also
+-- where the relvar's name means another relation
+abbrev pub ConditionsStayInTuples : Type 0
+ConditionsStayInTuples =
+    (db : Database) (relvar : List ℕ) (base : BaseRelvar) (gift other : Relation) (condition : Tree) (t : Tuple)
+    → IsLegal db → IsTyped (with_gifts ((relvar, gift) ∷ []) db) → base_named relvar db ≡ Some base
+    → IsChecked (database_scope db) [] (restriction (name relvar) condition)
+    → names_any (reached_from (relvar ∷ []) db.virtuals) condition ≡ false
+    → IsTypedTuple db.types t → heading_of t ≡ base.relation.heading
+    → (value_of (world_of (with_gifts ((relvar, gift) ∷ []) db)) (t ∷ []) condition ≡ value_of (world_of db) (t ∷ []) condition)
+    × (value_of (source_world (with_gifts ((relvar, gift) ∷ []) db) relvar other) (t ∷ []) condition
+    ≡ value_of (world_of (with_gifts ((relvar, gift) ∷ []) db)) (t ∷ []) condition)
