@@ -228,17 +228,13 @@ fn added_alone(given: &IndexMap<Name, Change>) -> Option<Added<'_>>
         × (given.now.entries ≡ (a.relvar.now, c) ∷ []) × (a.tuples.now ≡ c.add)
         × IsRelation c.add) }
 {
-    match only_one(given) {
-        Some((relvar, change)) => {
-            change.add.heading().reveal();
-            change.add.reveal();
-            Some(Added {
-                relvar,
-                tuples: &change.add,
-            })
-        }
-        None => None,
-    }
+    let (relvar, change) = only_one(given)?;
+    change.add.heading().reveal();
+    change.add.reveal();
+    Some(Added {
+        relvar,
+        tuples: &change.add,
+    })
 }
 
 /// Changes a base relvar: refused where a key does not hold of it then.
