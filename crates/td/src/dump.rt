@@ -89,7 +89,8 @@ pub(crate) fn dump<B: Body, R: Source, W: Sink>(
         (run_of stop (standing engine.old (W.taken writer.old)) script) done
         (W.taken writer.new)))) }
     ensures too_long { IfErr result (IfReadLimit (λ done.
-        OfTooMuch script_limit done (R.left reader.old) (R.left reader.new) (λ script. IsUnderWay Dump
+        OfTooMuch script_limit done (R.left reader.old) (R.left reader.new)
+        (λ script. IsUnderWay Dump
         (run_of stop (standing engine.old (W.taken writer.old)) script) done
         (W.taken writer.new)))) }
     ensures write { IfErr result (IfWrite (λ done. IsTrue (W.is_broken writer.new)

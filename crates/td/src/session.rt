@@ -64,7 +64,8 @@ fn run_script<B: Body, R: Source, W: Sink>(
         (run_of stop (standing engine.old (W.taken writer.old)) script) done
         (W.taken writer.new)))) }
     ensures too_long { IfErr result (IfReadLimit (λ done.
-        OfTooMuch script_limit done (R.left reader.old) (R.left reader.new) (λ script. IsUnderWay mode
+        OfTooMuch script_limit done (R.left reader.old) (R.left reader.new)
+        (λ script. IsUnderWay mode
         (run_of stop (standing engine.old (W.taken writer.old)) script) done
         (W.taken writer.new)))) }
     ensures write { IfErr result (IfWrite (λ done. IsTrue (W.is_broken writer.new)
@@ -105,7 +106,8 @@ pub(crate) fn session_on<B: Body, R: Source, W: Sink>(
         (run_of stop (standing empty_state (W.taken writer.old)) script) done
         (W.taken writer.new)))) }
     ensures too_long { IfSome result.fault (IfReadLimit (λ done.
-        OfTooMuch script_limit done (R.left reader.old) (R.left reader.new) (λ script. IsUnderWay mode
+        OfTooMuch script_limit done (R.left reader.old) (R.left reader.new)
+        (λ script. IsUnderWay mode
         (run_of stop (standing empty_state (W.taken writer.old)) script) done
         (W.taken writer.new)))) }
     ensures write { IfSome result.fault (IfWrite (λ done. IsTrue (W.is_broken writer.new)
@@ -160,7 +162,8 @@ pub fn session<R: Source, W: Sink>(
         (run_of stop (standing empty_state (W.taken writer.old)) script) done
         (W.taken writer.new)))) }
     ensures too_long { IfSome result.fault (IfReadLimit (λ done.
-        OfTooMuch script_limit done (R.left reader.old) (R.left reader.new) (λ script. IsUnderWay mode
+        OfTooMuch script_limit done (R.left reader.old) (R.left reader.new)
+        (λ script. IsUnderWay mode
         (run_of stop (standing empty_state (W.taken writer.old)) script) done
         (W.taken writer.new)))) }
     ensures write { IfSome result.fault (IfWrite (λ done. IsTrue (W.is_broken writer.new)
