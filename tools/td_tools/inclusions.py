@@ -1,7 +1,8 @@
 """The inclusions that a constraint demands: that what a relvar has for attributes, another has too.
 
-They are read from its expression: `A {X} <= B {Y RENAME ..}` and the like, IS_EMPTY of a MINUS or a
-NOT MATCHING, and several of these with AND between.
+They are read from its expression: `A {X} <= B {Y RENAME ..}` and the like, IS_EMPTY of a MINUS, of
+a NOT MATCHING, or of what has no partner by look-ups, as `IS_EMPTY(A WHERE (WITH (N := X) :
+IS_EMPTY(B WHERE Y = N)))`, and several of these with AND between.
 """
 from dataclasses import dataclass
 
@@ -56,12 +57,55 @@ class Reading:
         return None
 
     def of_nothing(self, part):
-        """Those of a MINUS or a NOT MATCHING that has to be empty."""
+        """Those of a MINUS, a NOT MATCHING or a WHERE that has to be empty."""
         part = part.bare
-        if part.kind not in ("MINUS", "NOT MATCHING"):
+        if part.kind not in ("MINUS", "NOT MATCHING", "WHERE"):
             return None
         (left, _), (right, _) = part.operands
+        if part.kind == "WHERE":
+            return self.by_look_up(self.side(left), right.bare)
         return self.between(left, right, False, part.kind == "MINUS")
+
+    def by_look_up(self, source, part):
+        """The inclusion that no tuple of the source is without one of a relvar that has, for its
+        attributes, what WITH names."""
+        if source is None or part.kind != "WITH":
+            return None
+        *items, sought = [one.bare for one, _ in part.operands]
+        named = {self.text_of(name): self.text_of(item) for name, item in zip(part.added, items)}
+        are_names = all(item.kind == "name" for item in items)
+        are_own = are_names and not set(named) & set(named.values())
+        if sought.kind != "IS_EMPTY" or not are_own:
+            return None
+        found = sought.operands[0][0].bare
+        if found.kind != "WHERE":
+            return None
+        target = self.side(found.operands[0][0])
+        pairs = target and self.equalities(found.operands[1][0].bare, named, target)
+        known = pairs and all(own in source.attributes for own, _ in pairs)
+        if not known or len(pairs) != len(named):
+            return None
+        ours = ((source.attributes[own], target.attributes[other]) for own, other in pairs)
+        return [Inclusion(source.relvar, target.relvar, tuple(ours))]
+
+    def equalities(self, part, named, target):
+        """The attributes of the source that are named, each with that of the target which equals
+        it; None where something else is asked."""
+        if part.kind == "AND":
+            both = [self.equalities(one.bare, named, target) for one, _ in part.operands]
+            return None if None in both else both[0] + both[1]
+        if part.kind != "=":
+            return None
+        for name, other in (map(self.text_of, order) for order in self.orders(part)):
+            if name in named and name not in target.attributes and other in target.attributes:
+                return [(named[name], other)]
+        return None
+
+    @staticmethod
+    def orders(part):
+        """The two sides of a comparison, in both orders."""
+        left, right = (one.bare for one, _ in part.operands)
+        return (left, right), (right, left)
 
     def between(self, left, right, is_mutual, is_whole):
         """The inclusion of one side in another: by all attributes, or by those in common."""
