@@ -8,7 +8,7 @@ use Rattle.td_value.specs.Values.{Relation}
 use Rattle.td_body.specs.Bodies.{HaveOneHeading}
 use Rattle.td_body.specs.code.HashBodies.{IsHashBody, IsPlacedFor, held_by, kept_with_aside}
 use Rattle.td_body.specs.code.Members.{ArePlaced, Members}
-use Rattle.td_body.proofs.MembersLaws.{one}
+use Rattle.td_body.proofs.MembersLaws.{none_there, one}
 
 -- what was held by members, and by others after them
 pub held_append : (xs ys : List Members) → flat_map held_by (xs ++ ys) ≡ flat_map held_by xs ++ flat_map held_by ys
@@ -75,12 +75,25 @@ module _ (keys : List (List (List ℕ))) where
         placed_aside = placed_aside;
       }
 
--- what keeps nothing has put nothing aside, and keeps nothing
+-- what keeps nothing has put nothing aside
 pub nothing_aside : (aside : List Members) (m : Members) → kept_with_aside aside m ≡ [] → aside ≡ []
 nothing_aside [] m e = refl
 nothing_aside (a ∷ aside) m e =
     absurd (omega (arith, ap length e, length-append (flat_map held_by (a ∷ aside)) m.kept, length-append (held_by a) (flat_map held_by aside), length-append a.kept (a.relation ∷ [])))
 
-pub nothing_kept : (aside : List Members) (m : Members) → kept_with_aside aside m ≡ [] → m.kept ≡ []
-nothing_kept [] m e = e
-nothing_kept (a ∷ aside) m e = absurd (omega (arith, ap length e, length-append (flat_map held_by (a ∷ aside)) m.kept, length-append (held_by a) (flat_map held_by aside), length-append a.kept (a.relation ∷ [])))
+module _ (keys : List (List (List ℕ))) where
+  -- members that hold and keep the same
+  pub body_same : (m n : Members) (aside next : List Members) (count : ℕ) → IsHashBody keys m aside count → n.relation ≡ m.relation
+      → kept_with_aside next n ≡ kept_with_aside aside m → IsPlacedFor keys n → All (IsPlacedFor keys) next → IsHashBody keys n next count
+  body_same m n aside next count b same kept placed placed_aside = record {
+    counted = b.counted ∙ ap length (sym kept);
+    headings = subst (HaveOneHeading n.relation) (sym kept) (other_heading m.relation n.relation (kept_with_aside aside m) (ap (λ r. r.heading) (sym same)) b.headings);
+    placed = placed;
+    placed_aside = placed_aside;
+  }
+
+  -- members that are put in order
+  pub body_compacted : (m n : Members) (aside : List Members) (count : ℕ) → IsHashBody keys m aside count → n.relation ≡ m.relation → n.kept ≡ m.kept → n.places ≡ m.places
+      → IsHashBody keys n aside count
+  body_compacted m n aside count b same kept places =
+      body_same m n aside aside count b same (ap (λ l. flat_map held_by aside ++ l) kept) (placed_same keys m n (ap (λ r. r.heading) same) places b.placed) b.placed_aside

@@ -1,7 +1,8 @@
 -- What hashed members are asked of a key.
-use Rattle.std.proofs.Common.{◌≡◌, ◌∙◌, ◌+◌, ◌∷◌, ℕ, Bool, true, false, cond, List, [], ap, arith, filter, get_or, length, refl, subst, sym}
-use Rattle.std.specs.Prelude.{IfSome, Option, None, Some}
-use Rattle.std.specs.List.{All, Contains}
+use Rattle.std.proofs.Common.{◌≡◌, ◌∙◌, ◌+◌, ◌<◌, ◌∷◌, ℕ, Bool, true, false, cond, List, [], ap, arith, filter, get_or, length, refl, subst, sym}
+use Rattle.std.specs.Prelude.{IfSome, Option, Some}
+use Rattle.std.specs.List.{All, Contains, slice_get}
+use Rattle.std.proofs.lemmas.Option.{slice_get-get_or}
 use Rattle.std.proofs.lemmas.List.{length-map}
 use Rattle.std.proofs.lemmas.List.Elements.{All-contains}
 use Rattle.std.proofs.lemmas.List.Kept.{IsStrictlySortedBy-filter}
@@ -15,8 +16,10 @@ use Rattle.td_value.proofs.Members.{contained, found}
 use Rattle.td_algebra.proofs.Lists.{contains_filter}
 use Rattle.td_algebra.proofs.Relations.{All-from_members, rows_ascend, rows_headed}
 use Rattle.td_body.specs.Bodies.{key_holds}
-use Rattle.td_body.specs.code.KeyIndexes.{with_part}
+use Rattle.td_body.specs.code.Hashes.{with_part}
+use Rattle.td_body.specs.code.HashBodies.{IsPlacedFor}
 use Rattle.td_body.specs.code.KeyParts.{apart_at, places_from}
+use Rattle.td_body.specs.code.Members.{Members}
 use Rattle.td_body.proofs.KeyParts.{apart_at-key}
 use Rattle.td_body.proofs.Parts.{filter-agreeing, names-heading}
 use Rattle.td_body.proofs.TupleSets.{ascends-set, has-set, same_tuples}
@@ -24,10 +27,6 @@ use Rattle.td_body.proofs.TupleSets.{ascends-set, has-set, same_tuples}
 -- what holds if something is there, of what is there
 pub at_some : {X : Type 0} (P : X → Type 0) (o : Option X) (x : X) → IfSome o P → o ≡ Some x → P x
 at_some P o x h e = subst (λ p. IfSome p P) e h
-
-pub if_weaker : {X : Type 0} (P Q : X → Type 0) → ((x : X) → P x → Q x) → (o : Option X) → IfSome o P → IfSome o Q
-if_weaker P Q f None h = h
-if_weaker P Q f (Some x) h = f x h
 
 -- there are as many places as attributes of the key
 places_count : (i : ℕ) (key : List (List ℕ)) (h : Heading) → length (places_from i key (attribute_names h)) ≡ length (projection key h)
@@ -82,3 +81,17 @@ module _ (r : Relation) (valid : IsRelation r) (key : List (List ℕ)) where
           same_tuples (set_of tuple_cmp tuples) (filter (agree_on key part) r.body) (ascends-set tuples)
           (IsStrictlySortedBy-filter tuple_cmp (agree_on key part) r.body (rows_ascend r valid))
           (λ t. has-set t tuples ∙ same_tests tuples (with_part places (values_of part) r.body) same t ∙ ap (has tuple_cmp t) with_part-agreeing)
+
+-- the names of the key of a number
+abbrev pub names_at : List (List (List ℕ)) → ℕ → List (List ℕ)
+names_at keys k = get_or keys k []
+
+pub key_at : (keys : List (List (List ℕ))) (k : ℕ) → k < length keys → slice_get keys k ≡ Some (names_at keys k)
+key_at keys k low = slice_get-get_or keys k [] low
+
+-- the places of the key of a number
+pub places_at : (m : Members) (keys : List (List (List ℕ))) (k : ℕ) → IsPlacedFor keys m → k < length keys
+    → slice_get m.places k ≡ Some (places_from 0 (names_at keys k) (attribute_names m.relation.heading))
+places_at m keys k placed low =
+    let there : slice_get m.places k ≡ Some (get_or m.places k []) = slice_get-get_or m.places k [] (omega (arith, low, placed.many)) in
+    there ∙ ap Some (placed.placed k (names_at keys k) (get_or m.places k []) (key_at keys k low) there)

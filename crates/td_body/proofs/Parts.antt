@@ -20,6 +20,10 @@ pub names-heading : (t : Tuple) → attribute_names (heading_of t) ≡ tuple_nam
 names-heading [] = refl
 names-heading (e ∷ t) = ap (λ ns. e.0 ∷ ns) (names-heading t)
 
+-- tuples of one heading have the same names
+pub one_names : (h : Heading) (s t : Tuple) → IsTupleOf h s → IsTupleOf h t → tuple_names s ≡ tuple_names t
+one_names h s t is as_well = sym (names-heading s) ∙ ap attribute_names (is.1 ∙ sym as_well.1) ∙ names-heading t
+
 turned : (o : Ordering) → is_eq (ordering_reverse o) ≡ is_eq o
 turned Less = refl
 turned Equal = refl

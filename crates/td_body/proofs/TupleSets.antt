@@ -7,9 +7,8 @@ use Rattle.td_value.specs.Sets.{has, set_of}
 use Rattle.td_value.specs.Values.{Tuple, IsAscendingBody, tuple_cmp}
 use Rattle.td_value.specs.ValueOrder.{tuple_Decides, tuple_order_same, tuple_order_total}
 use Rattle.td_value.proofs.SetLaws as sets
-use Rattle.td_body.specs.code.Histories.{changed_set, put_tuple}
-use Rattle.td_body.specs.code.KeyIndexes.{without}
-use Rattle.td_body.proofs.Numbered.{split}
+use Rattle.td_body.specs.code.Members.{changed_set, put_tuple, without}
+use Rattle.td_body.proofs.Splits.{split}
 
 abbrev pub has_tuple : Tuple → List Tuple → Bool
 has_tuple = has tuple_cmp

@@ -1,7 +1,10 @@
 pub mod BodyCode
+pub mod Chains
 pub mod HashBodies
-pub mod Histories
+pub mod Hashes
 pub mod KeyIndexes
 pub mod KeyParts
+pub mod Logs
 pub mod Members
-pub mod MembersCode
+pub mod Numbered
+pub mod Turns

@@ -1,12 +1,14 @@
-//! Bodies whose members are hashed.
+//! Bodies whose members are numbered, and found by hashes.
+mod back;
 mod body;
+mod chains;
+mod count;
 mod filled;
 mod hashes;
-mod history;
 mod index;
-mod look_ups;
+mod indexes;
 mod members;
+mod rows;
 mod step;
-mod tables;
 
 pub use body::HashBody;

@@ -1,68 +1,76 @@
--- The members of a body in two forms: in order as they once were, with each tuple that was touched since, and hashed by each
--- key (this project's own).
-use Rattle.std.specs.Prelude.{◌≡◌, ℕ, ◌+◌, ◌<◌, ◌≤◌, false, List, [], ◌∷◌, ◌++◌, length, map, vec_capacity, vec_len}
+-- The members of a body by number, with what they were, and found by each key (this project's own).
+use Rattle.std.specs.Prelude.{◌≡◌, ℕ, ◌<◌, ◌≤◌, Bool, true, List, [], ◌∷◌, ◌++◌, filter, length, map, not, refl, Some}
+use Rattle.std.specs.Coded.{Coded, code_by, coded×, coded_list, coded_ℕ}
 use Rattle.std.specs.List.{All, slice_get}
-use Rattle.std.specs.Prelude.{Some}
+use Rattle.td_value.specs.Sets.{has, put_in, set_of}
+use Rattle.td_value.specs.Values.{Relation, Tuple, tuple_cmp}
+use Rattle.td_value.specs.code.ValueCode.{relation_code}
+use Rattle.td_body.specs.code.KeyIndexes.{IsIndex, agree_at}
 use Rattle.td_body.specs.code.KeyParts.{places_from}
-use Rattle.td_types.specs.Types.{Heading}
-use Rattle.td_value.specs.Sets.{has}
-use Rattle.td_value.specs.Values.{Tuple, IsRelation, IsTupleOf, Relation, tuple_cmp}
-use Rattle.td_value.specs.code.Views.{relation_view}
-use Rattle.td_body.specs.code.Histories.{kept_sets}
-use Rattle.td_body.specs.declared.hashed.history.KeyHistory.{KeyHistory}
+use Rattle.td_body.specs.code.Logs.{is_proper, kept_by}
+use Rattle.td_body.specs.code.Numbered.{live, repeats, tuple_eq}
+use Rattle.td_body.specs.declared.hashed.index.KeyIndex.{KeyIndex}
+use Rattle.td_body.specs.declared.hashed.step.Step.{Step}
 
 -- what a body holds, and what it held before each change of which that is kept, the latest last; and the places by which
--- its tuples are hashed
+-- its tuples are found
 pub record Members : Type 0 where
   pub relation : Relation
   pub kept : List Relation
   pub places : List (List ℕ)
 
--- a history holds the set, and keeps the earlier ones
-abbrev pub IsAt : List Tuple → List (List Tuple) → KeyHistory → Type 0
-IsAt set kept h = (h.index.tuples ≡ set) × (kept_sets h.log.items h.index.tuples ≡ kept)
+abbrev pub members_code : Coded Members
+members_code =
+    code_by (Relation × (List Relation × List (List ℕ))) (coded× relation_code (coded× (coded_list relation_code) (coded_list (coded_list coded_ℕ))))
+    (λ m. (m.relation, (m.kept, m.places))) (λ p. record { relation = p.0; kept = p.1.0; places = p.1.1 }) (λ _. refl)
 
--- a history has room for a change that takes so many tuples out and puts those in that are ready
-abbrev pub HasRoom : ℕ → KeyHistory → Type 0
-HasRoom out h =
-    (h.dropped + out + length h.pending.items ≤ h.index.room) × (vec_len h.log + out + length h.pending.items < vec_capacity h.log)
+-- ---- sets of tuples
 
--- the tuples that are ready to be put in
-abbrev pub HasReady : List Tuple → KeyHistory → Type 0
-HasReady add h = h.pending.items ≡ add
+-- the set of the tuples
+abbrev pub tuples_of : List Tuple → List Tuple
+tuples_of = set_of tuple_cmp
 
--- the set that histories hold, and the sets that they keep: those of the first
-abbrev pub set_in : List Tuple → List KeyHistory → List Tuple
-set_in sorted [] = sorted
-set_in sorted (h ∷ hs) = h.index.tuples
+-- a set of tuples with one more
+abbrev pub put_tuple : Tuple → List Tuple → List Tuple
+put_tuple = put_in tuple_cmp
 
-abbrev pub kept_in : List KeyHistory → List (List Tuple)
-kept_in [] = []
-kept_in (h ∷ hs) = kept_sets h.log.items h.index.tuples
+-- the set without a tuple
+abbrev pub without : Tuple → List Tuple → List Tuple
+without t = filter (λ u. not (tuple_eq t u))
 
--- the places by which each of them finds its tuples
-abbrev pub places_in : List KeyHistory → List (List ℕ)
-places_in = map (λ (h : KeyHistory). h.index.places)
+-- a set without the tuples of one list, and then with those of another
+abbrev pub changed_set : List Tuple → List Tuple → List Tuple → List Tuple
+changed_set out add ts = tuples_of (filter (λ t. not (has tuple_cmp t out)) ts ++ add)
 
--- a set differs from the sorted tuples in touched ones alone
-abbrev pub Covers : List Tuple → List Tuple → List Tuple → Type 0
-Covers sorted touched set = (t : Tuple) → has tuple_cmp t touched ≡ false → has tuple_cmp t set ≡ has tuple_cmp t sorted
+-- ---- what holds of members
 
--- the set, before it each that is kept
-abbrev pub versions_in : List Tuple → List KeyHistory → List (List Tuple)
-versions_in sorted hs = kept_in hs ++ set_in sorted hs ∷ []
+abbrev pub places_in : List KeyIndex → List (List ℕ)
+places_in = map (λ (index : KeyIndex). index.places.items)
 
--- all histories hold one set and keep the same ones; each of these is a set of tuples of the heading, and differs from the
--- sorted tuples in touched ones alone
-pub record AreMembers (heading : Heading) (sorted touched : List Tuple) (hs : List KeyHistory) (count : ℕ) : Type 0 where
-  pub alike : All (IsAt (set_in sorted hs) (kept_in hs)) hs
-  pub relations : All (λ ts. IsRelation (relation_view heading ts)) (versions_in sorted hs)
-  pub covered : All (Covers sorted touched) (versions_in sorted hs)
-  pub headed : All (IsTupleOf heading) touched
-  pub untouched : hs ≡ [] → touched ≡ []
-  pub counted : count ≡ length (kept_in hs)
+-- an index keeps how many clashes each kept set has
+abbrev pub IsBefore : List Step → List Tuple → List Bool → KeyIndex → Type 0
+IsBefore log rows gone index = index.clashes.before.items ≡ kept_by (repeats (agree_at index.places.items)) log rows gone
 
--- the places are, wherever they are those of a key, the ones at which its names stand among the others
-abbrev pub ArePlaced : List (List (List ℕ)) → List (List ℕ) → List (List ℕ) → Type 0
-ArePlaced keys names places =
-    (k : ℕ) (key : List (List ℕ)) (ps : List ℕ) → slice_get keys k ≡ Some key → slice_get places k ≡ Some ps → ps ≡ places_from 0 key names
+pub record AreMembers (rows : List Tuple) (gone : List Bool) (fixed alive : ℕ) (before : List ℕ) (indexes : List KeyIndex) (log : List Step) : Type 0 where
+  pub marks : length gone ≡ length rows
+  pub apart : repeats tuple_eq (live rows gone) ≡ 0
+  pub proper : is_proper fixed log rows gone ≡ true
+  pub counted : alive ≡ length (live rows gone)
+  pub kept : before ≡ kept_by length log rows gone
+  pub indexed : All (IsIndex rows gone) indexes
+  pub clashes : All (IsBefore log rows gone) indexes
+  pub some : 0 < length indexes
+
+-- an index keeps how many clashes each kept set has, and the set as it is
+abbrev pub WasBefore : List Step → List Tuple → List Bool → KeyIndex → Type 0
+WasBefore log rows gone index =
+    index.clashes.before.items ≡ kept_by (repeats (agree_at index.places.items)) log rows gone ++ repeats (agree_at index.places.items) (live rows gone) ∷ []
+
+-- an index that keeps nothing
+abbrev pub IsFresh : KeyIndex → Type 0
+IsFresh index = index.clashes.before.items ≡ []
+
+-- there are places for each key, and they are the ones at which its names stand among the others
+pub record ArePlaced (keys : List (List (List ℕ))) (names : List (List ℕ)) (places : List (List ℕ)) : Type 0 where
+  pub many : length keys ≤ length places
+  pub placed : (k : ℕ) (key : List (List ℕ)) (ps : List ℕ) → slice_get keys k ≡ Some key → slice_get places k ≡ Some ps → ps ≡ places_from 0 key names

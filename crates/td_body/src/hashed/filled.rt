@@ -1,18 +1,17 @@
-//! The tuples of a relation, hashed by each of a body's keys.
-ghost use Rattle.std.specs.Prelude.{◌≡◌, [], ◌<◌, IfOk, length, map};
+//! The indexes of tuples by number, for each of a body's keys.
+ghost use Rattle.std.specs.Prelude.{◌≡◌, ◌<◌, IfOk, length, map};
 ghost use Rattle.std.specs.List.{All};
 ghost use Rattle.td_types.specs.Types.{attribute_names};
-ghost use Rattle.td_value.specs.Values.{IsAscendingBody};
+ghost use Rattle.td_body.specs.code.KeyIndexes.{IsIndex};
 ghost use Rattle.td_body.specs.code.KeyParts.{places_from};
-ghost use Rattle.td_body.specs.code.Members.{ArePlaced, IsAt, places_in};
+ghost use Rattle.td_body.specs.code.Members.{ArePlaced, IsFresh, places_in};
 
-use super::history::KeyHistory;
+use super::index::KeyIndex;
+use super::rows::Rows;
 use crate::keys::places_of;
 use std::alloc::{AllocError, Global};
 use td_tree::name::Name;
 use td_types::heading::Heading;
-use td_value::relation::Rel;
-use td_value::tuple::Tuple;
 
 /// The names of the attributes.
 fn attribute_names(heading: &Heading) -> Result<Vec<Name>, AllocError>
@@ -21,74 +20,76 @@ fn attribute_names(heading: &Heading) -> Result<Vec<Name>, AllocError>
     heading.new_names(&[])
 }
 
-/// The tuples, which have the names, to be found by the key.
-fn history_of(
-    alloc: Global,
-    names: &[Name],
-    key: &[Name],
-    tuples: &[Tuple],
-) -> Result<KeyHistory, AllocError>
-    requires { IsAscendingBody tuples.now }
-    ensures at { IfOk result (IsAt tuples.now []) }
-    ensures places { IfOk result (λ h. h.index.places ≡ places_from 0 key.now names.now) }
-{
-    let places = places_of(alloc, names, key)?;
-    KeyHistory::of_tuples(alloc, places, tuples)
-}
-
-/// The tuples, which have the names, to be found by each of the keys.
-fn histories_by(
+/// An index of the tuples for each key, whose names are among the names.
+fn indexes_by(
     alloc: Global,
     names: &[Name],
     keys: &[Vec<Name>],
-    tuples: &[Tuple],
-) -> Result<Vec<KeyHistory>, AllocError>
-    requires { IsAscendingBody tuples.now }
-    ensures at { IfOk result (λ hs. All (IsAt tuples.now []) hs.items) }
-    ensures places { IfOk result (λ hs. places_in hs.items
+    rows: &Rows,
+) -> Result<Vec<KeyIndex>, AllocError>
+    ensures index { IfOk result (λ v. All (IsIndex rows.now.rows rows.now.gone) v.items) }
+    ensures before { IfOk result (λ v. All IsFresh v.items) }
+    ensures places { IfOk result (λ v. places_in v.items
         ≡ map (λ key. places_from 0 key.items names.now) keys.now) }
 {
-    let mut histories = Vec::with_capacity(alloc, keys.len())?;
+    let mut indexes = Vec::with_capacity(alloc, keys.len())?;
     for key in keys {
-        histories.push(history_of(alloc, names, key, tuples)?)?;
+        let places = places_of(alloc, names, key)?;
+        let index = KeyIndex::of(alloc, places, rows)?;
+        indexes.push(index)?;
     }
-    Ok(histories)
+    Ok(indexes)
 }
 
-/// The tuples, which have the names, to be found by each of the keys; by none of the names where
-/// there is no key.
-fn histories_of_some(
-    alloc: Global,
-    names: &[Name],
-    keys: &[Vec<Name>],
-    tuples: &[Tuple],
-) -> Result<Vec<KeyHistory>, AllocError>
-    requires { IsAscendingBody tuples.now }
-    ensures at { IfOk result (λ hs. All (IsAt tuples.now []) hs.items) }
-    ensures placed { IfOk result (λ hs.
-        ArePlaced (map (λ key. key.items) keys.now) names.now (places_in hs.items)) }
-    ensures some { IfOk result (λ hs. 0 < length hs.items) }
+/// An index of the tuples for all names.
+fn index_by_all(alloc: Global, names: &[Name], rows: &Rows) -> Result<Vec<KeyIndex>, AllocError>
+    ensures index { IfOk result (λ v. All (IsIndex rows.now.rows rows.now.gone) v.items) }
+    ensures before { IfOk result (λ v. All IsFresh v.items) }
+    ensures some { IfOk result (λ v. length v.items ≡ 1) }
 {
+    let places = places_of(alloc, names, names)?;
+    let index = KeyIndex::of(alloc, places, rows)?;
+    let mut indexes = Vec::new(alloc);
+    indexes.push(index)?;
+    Ok(indexes)
+}
+
+/// An index of the tuples for each key, or for all attributes where there is no key.
+pub(crate) fn indexes_of(
+    alloc: Global,
+    keys: &[Vec<Name>],
+    rows: &Rows,
+) -> Result<Vec<KeyIndex>, AllocError>
+    ensures index { IfOk result (λ v. All (IsIndex rows.now.rows rows.now.gone) v.items) }
+    ensures before { IfOk result (λ v. All IsFresh v.items) }
+    ensures placed { IfOk result (λ v. ArePlaced (map (λ key. key.items) keys.now)
+        (attribute_names rows.now.heading) (places_in v.items)) }
+    ensures some { IfOk result (λ v. 0 < length v.items) }
+{
+    let names = attribute_names(rows.heading())?;
     if keys.is_empty() {
-        let mut histories = Vec::new(alloc);
-        histories.push(history_of(alloc, names, &[], tuples)?)?;
-        return Ok(histories);
+        index_by_all(alloc, &names, rows)
+    } else {
+        indexes_by(alloc, &names, keys, rows)
     }
-    histories_by(alloc, names, keys, tuples)
 }
 
-/// The tuples of the relation, hashed by each of the keys; by none of the names where there is no
-/// key.
-pub(crate) fn histories_of(
+/// An index of the tuples for the key of each of these.
+pub(crate) fn indexes_like(
     alloc: Global,
-    keys: &[Vec<Name>],
-    relation: &Rel,
-) -> Result<Vec<KeyHistory>, AllocError>
-    ensures at { IfOk result (λ hs. All (IsAt relation.now.body []) hs.items) }
-    ensures placed { IfOk result (λ hs. ArePlaced (map (λ key. key.items) keys.now)
-        (attribute_names relation.now.heading) (places_in hs.items)) }
-    ensures some { IfOk result (λ hs. 0 < length hs.items) }
+    old: &[KeyIndex],
+    old_rows: &Rows,
+    rows: &Rows,
+) -> Result<Vec<KeyIndex>, AllocError>
+    requires { All (IsIndex old_rows.now.rows old_rows.now.gone) old.now }
+    ensures index { IfOk result (λ v. All (IsIndex rows.now.rows rows.now.gone) v.items) }
+    ensures before { IfOk result (λ v. All IsFresh v.items) }
+    ensures places { IfOk result (λ v. places_in v.items ≡ places_in old.now) }
 {
-    let names = attribute_names(relation.heading())?;
-    histories_of_some(alloc, &names, keys, relation.rows())
+    let mut indexes = Vec::with_capacity(alloc, old.len())?;
+    for key in old {
+        let index = key.renewed(alloc, old_rows, rows)?;
+        indexes.push(index)?;
+    }
+    Ok(indexes)
 }

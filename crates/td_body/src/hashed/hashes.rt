@@ -1,6 +1,6 @@
 //! Hashes of the parts of tuples that a key names.
 ghost use Rattle.std.specs.Prelude.{◌≡◌, Some, fold, map, option_map};
-ghost use Rattle.td_body.specs.code.KeyIndexes.{fed_if_found, found_hash, part_hash};
+ghost use Rattle.td_body.specs.code.Hashes.{fed_if_found, found_hash, part_hash};
 
 use crate::keys::value_at;
 use std::hash::{FoldHasher, Hash, Hasher};

@@ -1,7 +1,7 @@
 use Rattle.std.proofs.Common.{◌∙◌, FoldHasher, ap, fold, sym}
 use Rattle.std.proofs.lemmas.List.{at_drop_all}
 use Rattle.std.specs.Hash.FoldHasher.{write}
-use Rattle.td_body.specs.code.KeyIndexes.{fed_found, found_hash}
+use Rattle.td_body.specs.code.Hashes.{fed_found, found_hash}
 use Rattle.td_body.specs.code.KeyParts.{values_at}
 use Rattle.td_body.proofs.hashed.hashes.hash_at.Goals as goal
 

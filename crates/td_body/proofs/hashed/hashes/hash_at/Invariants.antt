@@ -1,6 +1,6 @@
 use Rattle.std.proofs.Common.{◌≡◌, drop, fold}
 use Rattle.std.specs.Hash.FoldHasher.{write}
-use Rattle.td_body.specs.code.KeyIndexes.{fed_found}
+use Rattle.td_body.specs.code.Hashes.{fed_found}
 use Rattle.td_body.specs.code.KeyParts.{values_at}
 use Rattle.td_body.proofs.hashed.hashes.hash_at.Given as goal
 

@@ -1,63 +1,84 @@
-use Rattle.std.proofs.Common.{◌≡◌, ℕ, ◌+◌, sym, ap, ◌∙◌, subst, arith, not, is_some, true, false, Some, nat_eq, ◌&&◌}
-use Rattle.indexmap.specs.IndexMap.{get, keys}
-use Rattle.td_value.specs.Sets.{has, put_in, set_of}
-use Rattle.td_value.specs.ValueOrder.{tuple_Decides}
-use Rattle.td_value.specs.Values.{IsAscendingBody, tuple_cmp}
-use Rattle.td_body.specs.code.KeyIndexes.{count_in, ordinal_of, part_hash, tuple_at}
-use Rattle.td_body.proofs.Numbered.{none_of, numbered_more_at, several_still}
-use Rattle.td_body.proofs.Ordinals.{count_few, counted_more, counted_other, has_table, same, table_with}
-use Rattle.td_body.proofs.TupleSets.{ascends-set, put_again}
+use Rattle.std.proofs.Common.{◌≡◌, ◌≤◌, ℕ, ◌∙◌, ◌+◌, ◌∷◌, ◌++◌, [], arith, ap, cond, false, length, map, subst, sym}
+use Rattle.std.proofs.lemmas.List.{length-map, map-append}
+use Rattle.std.specs.List.{list_any}
+use Rattle.td_body.specs.code.Chains.{AreLinked, latest}
+use Rattle.td_body.specs.code.Numbered.{live, repeats}
+use Rattle.td_body.specs.code.KeyIndexes.{agree_at}
+use Rattle.td_body.specs.code.Hashes.{part_hash}
+use Rattle.td_body.proofs.IndexMarks.{put_marked}
+use Rattle.td_body.proofs.Lives.{live_more, repeats_more}
+use Rattle.td_body.proofs.Walks.{agree_laws, agreed_now, chained_now, live_few, repeats_fewer, some_any}
 use Rattle.td_body.proofs.hashed.index.KeyIndex.put_in.Goals as goal
 
-pub returns-then-contains_key-clause-tuples : goal.returns-then-contains_key-clause-tuples
-returns-then-contains_key-clause-tuples c =
-    subst (λ p. c.args.self.now.tuples ≡ put_in tuple_cmp p c.args.self.now.tuples) c.piece.view_is (subst (λ s. s.tuples ≡ put_in tuple_cmp c.piece.inside.place s.tuples) c.self.view_is
-    (sym (put_again c.piece.inside.place _ (ascends-set (keys c.self.inside.ordinals)) (has_table c.self.inside.ordinals c.piece.inside.place ∙ sym c.contains_key.ensures ∙ c.if-contains_key.true))))
+pub overflow_add-self : goal.overflow_add-self
+overflow_add-self c =
+    let rows = c.args.rows.now.rows in
+    let gone = c.args.rows.now.gone in
+    let places = c.skip_gone.new.self.places.items in
+    let row = c.args.tuple.now in
+    let some = some_any (agree_at places row) (live rows gone) (sym (c.is_agreed.ensures ∙ agreed_now c.deref-2.result.now places row c.count-count.result rows gone c.deref-2.ensures.value c.count-count.ensures.count c.count-count.ensures.marks) ∙ c.if-is_agreed.true) in
+    let few = repeats_fewer (agree_at places) (live rows gone) some in
+    let all = live_few rows gone in
+    omega (arith, few, all, c.skip_gone.ensures.index.1, c.count-count.ensures.count, c.count-count.ensures.small)
 
-pub returns-then-contains_key-clause-new : goal.returns-then-contains_key-clause-new
-returns-then-contains_key-clause-new c =
-    subst (λ p. false ≡ not (has tuple_cmp p c.args.self.now.tuples)) c.piece.view_is (subst (λ s. false ≡ not (has tuple_cmp c.piece.inside.place s.tuples)) c.self.view_is
-    (ap not (sym (has_table c.self.inside.ordinals c.piece.inside.place ∙ sym c.contains_key.ensures ∙ c.if-contains_key.true))))
-
-pub overflow_add-ordinal : goal.overflow_add-ordinal
-overflow_add-ordinal c =
-    let few = count_few (part_hash c.self.inside.places.items) (ordinal_of c.self.inside.ordinals) c.self.inside.slots (count_in c.self.inside.counts c.self.inside.slots) c.self.invariant.0 c.hash_at-hash.result in
-    omega (arith, few, c.count_of-ordinal.ensures, c.len.ensures.len, c.len.ensures.small)
-
-pub invariant_of-self : goal.invariant_of-self
-invariant_of-self c =
-    let places = c.self.inside.places.items in
-    let t = c.piece.inside.place in
-    let n = c.count_of-ordinal.result in
-    let k = c.hash_at-hash.result in
-    let is : k ≡ part_hash places t = c.hash_at-hash.ensures ∙ ap (λ ps. part_hash ps t) c.deref.ensures.value in
-    let item = tuple_at c.self.inside.slots in
-    let item' = tuple_at c.put.new.map in
-    let known = get nat_eq c.self.inside.counts in
-    let known' = get nat_eq c.raise_count.new.counts in
-    let there : item' k n ≡ Some t = c.put.ensures.updates.1 ∙ ap Some c.piece.invariant in
-    let others : (l i : ℕ) → (nat_eq k l && nat_eq n i) ≡ false → item' l i ≡ item l i = λ l i b. c.put.ensures.updates.2 (record { hash = l; ordinal = i }) b in
-    let more = counted_more known known' item item' k n
-    (λ i low. c.self.invariant.0.filled k i (omega (arith, low, c.count_of-ordinal.ensures))) (ap is_some there) others c.raise_count.ensures.counts in
-    let rest = counted_other known known' item item' k n others c.raise_count.ensures.counts in (
-      numbered_more_at same tuple_Decides (part_hash places) (ordinal_of c.self.inside.ordinals) item (count_in c.self.inside.counts c.self.inside.slots) c.self.invariant.0
-          (ordinal_of c.put-2.new.map) item' (count_in c.raise_count.new.counts c.put.new.map) t k n (sym is) c.count_of-ordinal.ensures
-          (none_of _ (sym c.contains_key.ensures ∙ c.if-contains_key.false)) c.put-2.ensures.updates.1 c.put-2.ensures.updates.2 there others more rest,
-      several_still known known' k (n + 1) c.raise_count.ensures.counts c.self.invariant.1,
+pub returns-then-is_agreed-clause-index : goal.returns-then-is_agreed-clause-index
+returns-then-is_agreed-clause-index c =
+    let rows = c.args.rows.now.rows in
+    let gone = c.args.rows.now.gone in
+    let row = c.args.tuple.now in
+    let ix = c.skip_gone.new.self in
+    let places = ix.places.items in
+    let hash = c.hash_at-hash.ensures ∙ ap (λ ps. part_hash ps row) (c.deref.ensures.value ∙ sym c.skip_gone.ensures.places) in (
+      record {
+        linked = subst (λ hs. AreLinked hs c.put_in-last.new.self.skipped.items c.put_in-last.new.self.last c.put_in-last.new.self.next.items)
+            (ap (λ h. map (part_hash places) rows ++ h ∷ []) hash ∙ sym (map-append (part_hash places) rows (row ∷ [])))
+            (c.put_in-last.ensures.linked (map (part_hash places) rows) c.skip_gone.ensures.index.0.linked);
+        marked = put_marked ix.chains.skipped.items c.put_in-last.new.self.skipped.items gone false c.put_in-last.ensures.skipped c.skip_gone.ensures.index.0.marked;
+      },
+      (let one = repeats_more (agree_at places) (agree_laws places) (live rows gone) row in
+          let more : ◌≡◌ {A = ℕ} (cond (list_any (agree_at places row) (live rows gone)) 1 0) 1 = ap (λ b. cond b 1 0) (sym (c.is_agreed.ensures ∙ agreed_now c.deref-2.result.now places row c.count-count.result rows gone c.deref-2.ensures.value c.count-count.ensures.count c.count-count.ensures.marks) ∙ c.if-is_agreed.true) in
+          let is : ix.clashes.now + 1 ≡ repeats (agree_at places) (live rows gone ++ row ∷ []) = omega (arith, one, more, c.skip_gone.ensures.index.1) in
+          is ∙ ap (repeats (agree_at places)) (sym (live_more rows gone row c.count-count.ensures.marks))),
     )
 
-pub returns-clause-tuples : goal.returns-clause-tuples
-returns-clause-tuples c =
-    subst (λ p. set_of tuple_cmp (keys c.put-2.new.map) ≡ put_in tuple_cmp p c.args.self.now.tuples) c.piece.view_is (subst (λ s. set_of tuple_cmp (keys c.put-2.new.map) ≡ put_in tuple_cmp c.piece.inside.place s.tuples) c.self.view_is
-    (table_with c.self.inside.ordinals c.put-2.new.map c.piece.inside.place c.count_of-ordinal.result c.put-2.ensures.updates.0))
+pub returns-else-is_agreed-clause-index : goal.returns-else-is_agreed-clause-index
+returns-else-is_agreed-clause-index c =
+    let rows = c.args.rows.now.rows in
+    let gone = c.args.rows.now.gone in
+    let row = c.args.tuple.now in
+    let ix = c.skip_gone.new.self in
+    let places = ix.places.items in
+    let hash = c.hash_at-hash.ensures ∙ ap (λ ps. part_hash ps row) (c.deref.ensures.value ∙ sym c.skip_gone.ensures.places) in (
+      record {
+        linked = subst (λ hs. AreLinked hs c.put_in-last.new.self.skipped.items c.put_in-last.new.self.last c.put_in-last.new.self.next.items)
+            (ap (λ h. map (part_hash places) rows ++ h ∷ []) hash ∙ sym (map-append (part_hash places) rows (row ∷ [])))
+            (c.put_in-last.ensures.linked (map (part_hash places) rows) c.skip_gone.ensures.index.0.linked);
+        marked = put_marked ix.chains.skipped.items c.put_in-last.new.self.skipped.items gone false c.put_in-last.ensures.skipped c.skip_gone.ensures.index.0.marked;
+      },
+      (let one = repeats_more (agree_at places) (agree_laws places) (live rows gone) row in
+          let more : ◌≡◌ {A = ℕ} (cond (list_any (agree_at places row) (live rows gone)) 1 0) 0 = ap (λ b. cond b 1 0) (sym (c.is_agreed.ensures ∙ agreed_now c.deref-2.result.now places row c.count-count.result rows gone c.deref-2.ensures.value c.count-count.ensures.count c.count-count.ensures.marks) ∙ c.if-is_agreed.false) in
+          let is : ix.clashes.now ≡ repeats (agree_at places) (live rows gone ++ row ∷ []) = omega (arith, one, more, c.skip_gone.ensures.index.1) in
+          is ∙ ap (repeats (agree_at places)) (sym (live_more rows gone row c.count-count.ensures.marks))),
+    )
 
-pub returns-clause-new : goal.returns-clause-new
-returns-clause-new c =
-    subst (λ p. true ≡ not (has tuple_cmp p c.args.self.now.tuples)) c.piece.view_is (subst (λ s. true ≡ not (has tuple_cmp c.piece.inside.place s.tuples)) c.self.view_is
-    (ap not (sym (has_table c.self.inside.ordinals c.piece.inside.place ∙ sym c.contains_key.ensures ∙ c.if-contains_key.false))))
-
-pub returns-then-contains_key-clause-ascending : goal.returns-then-contains_key-clause-ascending
-returns-then-contains_key-clause-ascending c = subst (λ s. IsAscendingBody s.tuples) c.self.view_is (ascends-set (keys c.self.inside.ordinals))
-
-pub returns-clause-ascending : goal.returns-clause-ascending
-returns-clause-ascending c = subst (λ s. IsAscendingBody s.tuples) c.self.view_is (ascends-set (keys c.self.inside.ordinals))
+pub is_agreed-requires-clause-chained : goal.is_agreed-requires-clause-chained
+is_agreed-requires-clause-chained c =
+    let rows = c.args.rows.now.rows in
+    let row = c.args.tuple.now in
+    let ix = c.skip_gone.new.self in
+    let places = ix.places.items in
+    let skipped = ix.chains.skipped.items in
+    let n = c.count-count.result in
+    let x = c.skip_gone.ensures.index.0 in
+    let hash = c.hash_at-hash.ensures ∙ ap (λ ps. part_hash ps row) (c.deref.ensures.value ∙ sym c.skip_gone.ensures.places) in
+    let many : length (map (part_hash places) rows) ≡ n = length-map rows (part_hash places) ∙ sym c.count-count.ensures.count in
+    let long : length skipped ≡ n = x.linked.marks ∙ many in (
+      skipped,
+      x.marked,
+      (let few : n ≤ length skipped = omega (arith, long) in few),
+      chained_now c.deref-2.result.now places rows c.hash_at-hash.result n skipped c.put_in-last.new.self.skipped.items c.put_in-last.new.self.last c.put_in-last.new.self.next.items c.deref-3.result.now long
+          (c.put_in-last.ensures.linked (map (part_hash places) rows) x.linked) c.put_in-last.ensures.skipped c.deref-2.ensures.value c.deref-3.ensures.value c.count-count.ensures.count,
+      c.put_in-last.ensures.old ∙ x.linked.lasts c.hash_at-hash.result ∙ ap (latest (map (part_hash places) rows) skipped c.hash_at-hash.result) many
+          ∙ ap (λ h. latest (map (part_hash places) rows) skipped h n) hash
+          ∙ ap (λ ps. latest (map (part_hash ps) rows) skipped (part_hash ps row) n) (sym c.deref-2.ensures.value),
+    )

@@ -1,24 +1,20 @@
-use Rattle.std.proofs.Common.{◌≡◌, ◌∙◌, ap, length, refl, subst, sym}
-use Rattle.std.specs.List.{slice_get}
-use Rattle.std.specs.Option.{option_map}
-use Rattle.std.specs.Prelude.{Some, List, ℕ}
-use Rattle.std.proofs.lemmas.Option.{slice_get-map, slice_get_read}
+use Rattle.std.proofs.Common.{◌≡◌, ◌∙◌, ap, nat_eq, subst, sym}
+use Rattle.std.specs.Prelude.{IfSome}
+use Rattle.td_body.specs.code.KeyIndexes.{IsIndex}
 use Rattle.td_body.specs.code.KeyParts.{apart_at}
-use Rattle.td_body.specs.code.Members.{IsAt, Members, kept_in, set_in}
-use Rattle.td_body.specs.declared.hashed.history.KeyHistory.{KeyHistory}
-use Rattle.td_body.proofs.LookUps.{if_weaker}
-use Rattle.td_body.proofs.MembersLaws.{at_place}
+use Rattle.td_body.specs.code.Members.{Members}
+use Rattle.td_body.specs.code.Numbered.{live}
+use Rattle.td_body.proofs.News.{apart_now, index_low, index_places}
 use Rattle.td_body.proofs.hashed.members.Members.are_apart.Goals as goal
 
-pub returns-in-Some : goal.returns-in-Some
-returns-in-Some c =
-    let hs = c.self.inside.histories.items in
-    let h = c.in-Some.history.now in
+pub returns : goal.returns
+returns c =
+    let xs = c.self.inside.indexes.items in
+    let rows = c.self.inside.rows in
     let k = c.args.number in
-    let is : slice_get hs k ≡ Some h =
-    subst (λ xs. slice_get xs k ≡ Some h) c.deref.ensures.value (slice_get_read c.deref.result.now (length c.deref.result.now) k h refl c.in-Some.ensures.lookup.3.0 c.in-Some.ensures.lookup.1) in
-    let tuples : h.index.tuples ≡ c.args.self.now.relation.body = (at_place (IsAt (set_in c.self.inside.sorted.body hs) (kept_in hs)) hs k h c.self.invariant.alike is).0 ∙ ap (λ (n : Members). n.relation.body) c.self.view_is in
-    let places : slice_get c.args.self.now.places k ≡ Some h.index.places =
-    ap (λ (n : Members). slice_get n.places k) (sym c.self.view_is) ∙ slice_get-map (λ (g : KeyHistory). g.index.places) hs k ∙ ap (option_map (λ (g : KeyHistory). g.index.places)) is in
-    if_weaker (λ b. b ≡ apart_at h.index.places h.index.tuples) (λ b. (ps : List ℕ) × (slice_get c.args.self.now.places k ≡ Some ps) × (b ≡ apart_at ps c.args.self.now.relation.body))
-    (λ b e. (h.index.places, places, e ∙ ap (apart_at h.index.places) tuples)) c.is_apart.result c.is_apart.ensures
+    let x = c.index.result.now in
+    let m = c.args.self.now in
+    let same = ap (λ (m : Members). m.places) c.self.view_is in
+    let index : IsIndex rows.rows rows.gone x = subst (IsIndex rows.rows rows.gone) (sym c.index.ensures) (c.self.invariant.indexed k x (index_low xs m.places same k c.requires)) in
+    let told = apart_now x.places.items (live rows.rows rows.gone) x.clashes.now c.self.invariant.apart index.1 ∙ ap (λ (m : Members). apart_at x.places.items m.relation.body) c.self.view_is in
+    subst (λ o. IfSome o (λ places. nat_eq x.clashes.now 0 ≡ apart_at places m.relation.body)) (sym (index_places xs m.places same k c.requires x c.index.ensures)) told

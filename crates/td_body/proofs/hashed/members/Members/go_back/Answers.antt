@@ -1,43 +1,44 @@
-use Rattle.std.proofs.Common.{◌≡◌, ◌∙◌, ◌<◌, ◌-◌, ◌++◌, ◌∷◌, [], arith, ap, length, length-append, map, subst, sym}
-use Rattle.std.specs.List.{All}
-use Rattle.std.proofs.lemmas.List.{length-map, map-append, with_items_is}
+use Rattle.std.proofs.Common.{◌≡◌, ◌∙◌, ◌∷◌, ◌++◌, [], ◌<◌, ap, arith, length, map, subst, sym}
+use Rattle.std.proofs.lemmas.List.{length-map, map-append}
 use Rattle.td_value.specs.code.Views.{relation_view}
-use Rattle.td_body.specs.code.Members.{AreMembers, IsAt, Members, kept_in, set_in}
-use Rattle.td_body.proofs.MembersLaws.{as_many, first_at, members_back, some_kept, with_last}
+use Rattle.td_body.specs.declared.hashed.index.KeyIndex.{KeyIndex}
+use Rattle.td_body.specs.code.Logs.{kept_by}
+use Rattle.td_body.specs.code.Members.{places_in, tuples_of}
+use Rattle.td_body.specs.code.Numbered.{live}
+use Rattle.td_body.specs.code.Turns.{GoesBack}
+use Rattle.td_body.proofs.Backs.{members_back}
+use Rattle.td_body.proofs.StepLaws.{kept_many}
+use Rattle.td_body.proofs.Turns.{turned_places}
 use Rattle.td_body.proofs.hashed.members.Members.go_back.Goals as goal
+
+pub undo_steps-requires-clause-kept : goal.undo_steps-requires-clause-kept
+undo_steps-requires-clause-kept c =
+    let rows = c.self.inside.rows in
+    let log = c.self.inside.log.items in
+    let sets = kept_by tuples_of log rows.rows rows.gone in
+    let some : 0 < length (map (relation_view rows.heading) sets) = subst (λ s. 0 < length s.kept) (sym c.self.view_is) c.requires in
+    let many = kept_many length tuples_of log rows.rows rows.gone in
+    omega (arith, some, many, length-map sets (relation_view rows.heading))
 
 pub invariant_of-self : goal.invariant_of-self
 invariant_of-self c =
-    let h = c.self.inside.sorted.heading in
-    let sorted = c.self.inside.sorted.body in
-    let hs = c.self.inside.histories.items in
-    let gs = c.go_back_all.new.histories in
-    let kept : 0 < length (kept_in hs) = omega (arith, ap (λ (n : Members). length n.kept) c.self.view_is, length-map (kept_in hs) (relation_view h)) in
-    let some : 0 < length gs = omega (arith, some_kept hs kept, as_many gs c.deref_mut.result.now c.go_back_all.ensures.places, ap length c.deref_mut.ensures.value) in
-    let last = with_last (kept_in hs) kept in
-    let alike : All (IsAt (set_in sorted hs) (last.0 ++ last.1 ∷ [])) c.deref_mut.result.now =
-    subst (All (IsAt (set_in sorted hs) (last.0 ++ last.1 ∷ []))) (sym c.deref_mut.ensures.value) (subst (λ k. All (IsAt (set_in sorted hs) k) hs) last.2 c.self.invariant.alike) in
-    let at : All (IsAt last.1 last.0) gs = c.go_back_all.ensures.back (set_in sorted hs) last.1 last.0 alike in
-    let counted : c.self.inside.kept_count - 1 ≡ length last.0 = omega (arith, c.self.invariant.counted, ap length last.2, length-append last.0 (last.1 ∷ [])) in
-    subst (λ l. AreMembers h sorted c.self.inside.touched.items l (c.self.inside.kept_count - 1))
-    (sym (with_items_is c.self.inside.histories gs (as_many gs c.deref_mut.result.now c.go_back_all.ensures.places ∙ c.deref_mut.ensures.len)))
-    (subst (AreMembers h sorted c.self.inside.touched.items gs) (sym counted)
-    (members_back h sorted c.self.inside.touched.items hs c.self.inside.kept_count c.self.invariant last.1 last.0 gs some last.2 at))
+    let e = c.undo_steps.ensures in
+    let r = c.undo_steps.new.rows in
+    let xs = c.undo_steps.new.indexes.items in
+    let some : 0 < length xs = omega (arith, c.self.invariant.some, ap length e.places, length-map xs (λ (index : KeyIndex). index.places.items), length-map c.self.inside.indexes.items (λ (index : KeyIndex). index.places.items)) in
+    members_back r.rows r.gone r.fixed c.go_back.new.self.now c.go_back.new.self.before.items c.self.inside.alive.before.items xs c.go_back_every.new.indexes.items c.undo_steps.new.log.items
+    e.marks e.apart e.proper (c.self.invariant.kept ∙ e.counts) c.go_back.ensures e.linked e.clashes c.go_back_every.ensures some
 
 pub returns-clause-back : goal.returns-clause-back
 returns-clause-back c =
-    let h = c.self.inside.sorted.heading in
-    let sorted = c.self.inside.sorted.body in
-    let hs = c.self.inside.histories.items in
-    let gs = c.go_back_all.new.histories in
-    let kept : 0 < length (kept_in hs) = omega (arith, ap (λ (n : Members). length n.kept) c.self.view_is, length-map (kept_in hs) (relation_view h)) in
-    let some : 0 < length gs = omega (arith, some_kept hs kept, as_many gs c.deref_mut.result.now c.go_back_all.ensures.places, ap length c.deref_mut.ensures.value) in
-    let last = with_last (kept_in hs) kept in
-    let alike : All (IsAt (set_in sorted hs) (last.0 ++ last.1 ∷ [])) c.deref_mut.result.now =
-    subst (All (IsAt (set_in sorted hs) (last.0 ++ last.1 ∷ []))) (sym c.deref_mut.ensures.value) (subst (λ k. All (IsAt (set_in sorted hs) k) hs) last.2 c.self.invariant.alike) in
-    let first = first_at sorted last.1 last.0 gs some (c.go_back_all.ensures.back (set_in sorted hs) last.1 last.0 alike) in
-    let back : map (relation_view h) (kept_in hs) ≡ map (relation_view h) (kept_in gs) ++ relation_view h (set_in sorted gs) ∷ [] =
-    ap (map (relation_view h)) last.2 ∙ map-append (relation_view h) last.0 (last.1 ∷ []) ∙ (λ i. map (relation_view h) (sym first.1 i) ++ relation_view h (sym first.0 i) ∷ []) in
-    sym (ap (λ (n : Members). n.kept) c.self.view_is) ∙ back
-    ∙ (λ i. map (relation_view h) (kept_in (sym (with_items_is c.self.inside.histories gs (as_many gs c.deref_mut.result.now c.go_back_all.ensures.places ∙ c.deref_mut.ensures.len)) i))
-    ++ relation_view h (set_in sorted (sym (with_items_is c.self.inside.histories gs (as_many gs c.deref_mut.result.now c.go_back_all.ensures.places ∙ c.deref_mut.ensures.len)) i)) ∷ [])
+    let e = c.undo_steps.ensures in
+    let r = c.undo_steps.new.rows in
+    let rows = c.self.inside.rows in
+    let rest = kept_by tuples_of c.undo_steps.new.log.items r.rows r.gone in
+    let set = tuples_of (live r.rows r.gone) in
+    subst (λ s. s.kept ≡ map (relation_view r.heading) rest ++ relation_view r.heading set ∷ []) c.self.view_is
+    ((λ i. map (relation_view (sym e.heading i)) (e.sets i)) ∙ map-append (relation_view r.heading) rest (set ∷ []))
+
+pub returns-clause-places : goal.returns-clause-places
+returns-clause-places c = subst (λ s. places_in c.go_back_every.new.indexes.items ≡ s.places) c.self.view_is
+    (turned_places GoesBack c.undo_steps.new.indexes.items c.go_back_every.new.indexes.items c.go_back_every.ensures (λ x y s. s.places) ∙ c.undo_steps.ensures.places)

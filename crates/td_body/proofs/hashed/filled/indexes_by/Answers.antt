@@ -1,0 +1,25 @@
+use Rattle.std.proofs.Common.{◌≡◌, ◌∙◌, ◌++◌, ◌∷◌, [], List, Vec, Global, ap, get_or, map, subst, sym, take}
+use Rattle.std.proofs.lemmas.List.{map-append, take_more}
+use Rattle.std.specs.List.{All}
+use Rattle.td_tree.specs.declared.name.Name.{Name}
+use Rattle.td_body.specs.code.KeyIndexes.{IsIndex}
+use Rattle.td_body.specs.code.KeyParts.{places_from}
+use Rattle.td_body.specs.code.Members.{IsFresh, places_in}
+use Rattle.td_body.proofs.News.{all_push, places_push}
+use Rattle.td_body.proofs.hashed.filled.indexes_by.Goals as goal
+
+pub loop-key-preserved : goal.loop-key-preserved
+loop-key-preserved c =
+    let old = c.loop-key.indexes.items in
+    let x = c.in_ok-index.index in
+    let i = c.loop-key.key-index in
+    let keys = c.args.keys.now in
+    let f : Vec Name Global → List _ = λ key. places_from 0 key.items c.args.names.now in
+    let place : x.places.items ≡ f (get_or keys i c.key-item.result) =
+    c.in_ok-index.ensures.places ∙ c.in_ok-places.ensures ∙ ap (λ key. places_from 0 key c.args.names.now) c.deref.ensures.value ∙ ap f c.key-item.is in
+    record {
+      index = subst (All (IsIndex c.args.rows.now.rows c.args.rows.now.gone)) (sym c.in_ok-push.ensures.items) (all_push (IsIndex c.args.rows.now.rows c.args.rows.now.gone) old x c.loop-key.invariant.index c.in_ok-index.ensures.index);
+      before = subst (All IsFresh) (sym c.in_ok-push.ensures.items) (all_push IsFresh old x c.loop-key.invariant.before c.in_ok-index.ensures.before);
+      places = ap places_in c.in_ok-push.ensures.items ∙ places_push old x ∙ (λ j. c.loop-key.invariant.places j ++ place j ∷ [])
+          ∙ sym (map-append f (take i keys) (get_or keys i c.key-item.result ∷ [])) ∙ ap (map f) (sym (take_more keys i c.key-item.result c.loop-key-test.true));
+    }
