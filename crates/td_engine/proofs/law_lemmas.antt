@@ -17,7 +17,9 @@ pub mod Gifted
 pub mod GiftsInTurn
 pub mod GivenRelations
 pub mod GivenValues
+pub mod Images
 pub mod InOrder
+pub mod Inclusions
 pub mod Kept
 pub mod KeptLegal
 pub mod LegalChanges

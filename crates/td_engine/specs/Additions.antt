@@ -1,7 +1,7 @@
--- Constraints that may be tested by the tuples that come into a relvar: they ask of each of its tuples, by a condition that names nothing
--- which a change of it reaches (this project's own).
-use Rattle.std.specs.Prelude.{◌≡◌, ℕ, Bool, true, false, List, [], ◌∷◌, Some}
-use Rattle.std.specs.List.{AllByRecursion}
+-- Constraints that may be tested by the tuples that come into a relvar: they ask of each of its tuples, by a condition or an expression
+-- that names nothing which a change of it reaches (this project's own).
+use Rattle.std.specs.Prelude.{◌≡◌, ◌⊎◌, ℕ, Bool, true, false, List, [], ◌∷◌, Some, map}
+use Rattle.std.specs.List.{AllByRecursion, list_all}
 use Rattle.td_algebra.specs.Membership.{IsIn}
 use Rattle.td_body.specs.Bodies.{after_change}
 use Rattle.td_catalog.specs.Database.{BaseRelvar, Database, NamedConstraint, base_named, database_scope}
@@ -18,10 +18,12 @@ use Rattle.td_eval.specs.TreeValues.{value_of}
 use Rattle.td_eval.specs.UnfailingValues.{GivesValues}
 use Rattle.td_eval.specs.ValueLaws.{IsChecked}
 use Rattle.td_eval.specs.ValueTypes.{IsTypedTuple}
+use Rattle.td_tree.specs.declared.operator.Comparison.TheVariants as comparisons
 use Rattle.td_tree.specs.declared.operator.Measure.TheVariants as measures
 use Rattle.td_tree.specs.Outcomes.{Outcome, Valued, with_value}
-use Rattle.td_tree.specs.Trees.{Tree, measure, name, restriction}
-use Rattle.td_value.specs.Values.{Relation, Tuple, Val, heading_of}
+use Rattle.td_tree.specs.Trees.{Tree, compare, measure, name, parentheses, postfix, project, rename, restriction}
+use Rattle.td_value.specs.Sets.{has}
+use Rattle.td_value.specs.Values.{Relation, Tuple, Val, heading_of, tuple_cmp}
 
 -- the expression is that no tuple of the relvar meets a condition that names none of those that are reached
 pub record AsksEach (relvar : List ℕ) (reached : List (List ℕ)) (e : Tree) : Type 0 where
@@ -29,10 +31,30 @@ pub record AsksEach (relvar : List ℕ) (reached : List (List ℕ)) (e : Tree) :
   pub is : e ≡ measure measures.IsEmpty (restriction (name relvar) condition)
   pub apart : names_any reached condition ≡ false
 
+-- the expression is the relvar, or what projections and renamings make of it, in parentheses or not
+abbrev pub IsImageOf : List ℕ → Tree → Type 0
+IsImageOf relvar (name n) = n ≡ relvar
+IsImageOf relvar (parentheses inner) = IsImageOf relvar inner
+IsImageOf relvar (postfix operand (project attributes)) = IsImageOf relvar operand
+IsImageOf relvar (postfix operand (rename style renamings)) = IsImageOf relvar operand
+IsImageOf relvar _ = ⊥
+
+-- the expression is that such an image of the relvar is included in what names none of those that are reached
+pub record AsksInclusion (relvar : List ℕ) (reached : List (List ℕ)) (e : Tree) : Type 0 where
+  pub left : Tree
+  pub right : Tree
+  pub is : e ≡ compare left comparisons.LessOrEqual right
+  pub image : IsImageOf relvar left
+  pub apart : names_any reached right ≡ false
+
+-- the expression asks of each tuple of the relvar, in one of these forms
+abbrev pub AsksOfTuples : List ℕ → List (List ℕ) → Tree → Type 0
+AsksOfTuples relvar reached e = AsksEach relvar reached e ⊎ AsksInclusion relvar reached e
+
 -- the test of such a constraint comes to the same where the relvar's name means the tuples that came in alone
 abbrev pub PassesAsAdded : List (List ℕ) → Database → List ℕ × Relation → NamedConstraint → Type 0
 PassesAsAdded reached db added c =
-    AsksEach added.0 reached c.tree → constraint_check (source_world db added.0 added.1) c ≡ constraint_check (world_of db) c
+    AsksOfTuples added.0 reached c.tree → constraint_check (source_world db added.0 added.1) c ≡ constraint_check (world_of db) c
 
 -- what came into a relvar, by which such constraints may be tested
 pub record AreAdditions (reached : List (List ℕ)) (db : Database) (added : List ℕ × Relation) : Type 0 where
@@ -42,6 +64,10 @@ pub record AreAdditions (reached : List (List ℕ)) (db : Database) (added : Lis
 -- whether no tuple of a relation meets a condition, which has these values
 abbrev pub emptiness : (Tuple → Outcome Val) → Relation → Outcome Bool
 emptiness f r = truth_value (with_value (restricted_value f r) (measure_value measures.IsEmpty))
+
+-- whether each tuple of a relation has its image in another
+abbrev pub images_are_in : (Tuple → Tuple) → Relation → Relation → Bool
+images_are_in image into r = list_all (λ t. has tuple_cmp t into.body) (map image r.body)
 
 -- ---- laws
 
@@ -66,3 +92,20 @@ ConditionsStayInTuples =
     → (value_of (world_of (with_gifts ((relvar, gift) ∷ []) db)) (t ∷ []) condition ≡ value_of (world_of db) (t ∷ []) condition)
     × (value_of (source_world (with_gifts ((relvar, gift) ∷ []) db) relvar other) (t ∷ []) condition
     ≡ value_of (world_of (with_gifts ((relvar, gift) ∷ []) db)) (t ∷ []) condition)
+
+-- where each tuple of a relation had its image in another before, each has after a change exactly where each that came in has
+abbrev pub InclusionsAreOfAdditions : Type 0
+InclusionsAreOfAdditions =
+    (image : Tuple → Tuple) (old out add into : Relation) → images_are_in image into old ≡ true
+    → images_are_in image into (after_change out add old) ≡ images_are_in image into add
+
+-- an expression that names nothing which a change of a base relvar reaches has the value that it had, or the same causes, also where
+-- the relvar's name means another relation
+abbrev pub ExpressionsStay : Type 0
+ExpressionsStay =
+    (db : Database) (relvar : List ℕ) (gift other : Relation) (e : Tree)
+    → IsLegal db → IsTyped (with_gifts ((relvar, gift) ∷ []) db) → IsChecked (database_scope db) [] e
+    → names_any (reached_from (relvar ∷ []) db.virtuals) e ≡ false
+    → (value_of (world_of (with_gifts ((relvar, gift) ∷ []) db)) [] e ≡ value_of (world_of db) [] e)
+    × (value_of (source_world (with_gifts ((relvar, gift) ∷ []) db) relvar other) [] e
+    ≡ value_of (world_of (with_gifts ((relvar, gift) ∷ []) db)) [] e)

@@ -1,8 +1,8 @@
-//! Constraints that may be tested by the tuples that came into a base relvar: they ask of each of its
-//! tuples, by a condition that names nothing which the change reaches.
+//! Constraints that may be tested by the tuples that came into a base relvar: they ask of each of
+//! its tuples, by a condition or an expression that names nothing which the change reaches.
 ghost use Rattle.std.specs.Prelude.{◌≡◌, ℕ, List, false, true};
 ghost use Rattle.td_catalog.specs.NamedRelvars.{names_any};
-ghost use Rattle.td_engine.specs.Additions.{AsksEach};
+ghost use Rattle.td_engine.specs.Additions.{AsksEach, AsksInclusion, AsksOfTuples, IsImageOf};
 ghost use Rattle.td_engine.specs.code.Restrictions.{IsRestrictionApart};
 ghost use Rattle.td_tree.specs.Trees as trees;
 ghost use Rattle.td_tree.specs.code.TreeViews.{tree_view};
@@ -10,9 +10,9 @@ ghost use Rattle.td_tree.specs.code.TreeViews.{tree_view};
 use std::alloc::Global;
 use td_catalog::marked_names::MarkedNames;
 use td_check::names::names_in;
-use td_tree::expression::Expr;
+use td_tree::expression::{Expr, Postfix};
 use td_tree::name::Name;
-use td_tree::operator::Measure;
+use td_tree::operator::{Comparison, Measure};
 use td_value::relation::Rel;
 
 /// The one base relvar that a statement changed, and the tuples that came into it.
@@ -61,11 +61,55 @@ fn restricts(alloc: Global, expr: &Expr, relvar: &Name, reached: &MarkedNames) -
 }
 
 /// Whether the expression is that no tuple of the relvar meets such a condition.
-pub(crate) fn asks_each(alloc: Global, expr: &Expr, relvar: &Name, reached: &MarkedNames) -> bool
+fn asks_each(alloc: Global, expr: &Expr, relvar: &Name, reached: &MarkedNames) -> bool
     ensures { result ≡ true → AsksEach relvar.now reached.now (tree_view expr.now) }
 {
     match expr {
         Expr::Measure(Measure::IsEmpty, operand) => restricts(alloc, operand, relvar, reached),
         _ => false,
     }
+}
+
+/// Whether the expression is the relvar, or what projections and renamings make of it.
+fn is_image(expr: &Expr, relvar: &Name) -> bool
+    ensures { result ≡ true → IsImageOf relvar.now (tree_view expr.now) }
+{
+    match expr {
+        Expr::Name(own) => *own == *relvar,
+        Expr::Parentheses(inner) => is_image(inner, relvar),
+        Expr::Postfix(operand, Postfix::Project(_)) => is_image(operand, relvar),
+        Expr::Postfix(operand, Postfix::Rename(_, _)) => is_image(operand, relvar),
+        _ => false,
+    }
+}
+
+/// Whether the expression is that such an image of the relvar is included in what names none of
+/// those reached.
+fn asks_inclusion(alloc: Global, expr: &Expr, relvar: &Name, reached: &MarkedNames) -> bool
+    ensures { result ≡ true → AsksInclusion relvar.now reached.now (tree_view expr.now) }
+{
+    match expr {
+        Expr::Compare(left, Comparison::LessOrEqual, right) => {
+            if !is_image(left, relvar) {
+                return false;
+            }
+            !may_name(alloc, right, reached)
+        }
+        _ => false,
+    }
+}
+
+/// Whether the expression asks of each tuple of the relvar, in one of these forms.
+pub(crate) fn asks_of_tuples(
+    alloc: Global,
+    expr: &Expr,
+    relvar: &Name,
+    reached: &MarkedNames,
+) -> bool
+    ensures { result ≡ true → AsksOfTuples relvar.now reached.now (tree_view expr.now) }
+{
+    if asks_each(alloc, expr, relvar, reached) {
+        return true;
+    }
+    asks_inclusion(alloc, expr, relvar, reached)
 }

@@ -27,7 +27,7 @@ ghost use Rattle.td_tree.specs.code.TreeViews.{tree_view};
 ghost use Rattle.td_tree.specs.Trees as trees;
 ghost use Rattle.td_value.specs.Values.{Val};
 
-use crate::added::{Added, asks_each};
+use crate::added::{Added, asks_of_tuples};
 use crate::refusal::{Failure, Refusal};
 use crate::updates::assigned_value;
 use std::alloc::{AllocError, Global};
@@ -269,7 +269,7 @@ fn test_after<B: Body>(
     let Some(added) = added else {
         return test_constraint(alloc, catalog, name, condition);
     };
-    if asks_each(alloc, condition.tree(), added.relvar, reached) {
+    if asks_of_tuples(alloc, condition.tree(), added.relvar, reached) {
         test_added(alloc, catalog, added, name, condition)
     } else {
         test_constraint(alloc, catalog, name, condition)

@@ -1,6 +1,6 @@
 -- Where one base relvar of a legal database was changed, constraints that ask of each of its tuples may be tested by those that came
 -- in.
-use Rattle.std.proofs.Common.{◌≡◌, ◌∙◌, ◌∷◌, ℕ, Bool, true, false, List, [], Option, Some, None, ap, map, refl, subst, sym}
+use Rattle.std.proofs.Common.{◌≡◌, ◌∙◌, ◌∷◌, inl, inr, ℕ, Bool, true, false, List, [], Option, Some, None, ap, map, refl, subst, sym}
 use Rattle.std.specs.Borrow.{Bor}
 use Rattle.std.specs.List.{slice_get}
 use Rattle.std.specs.Prelude.{IfSome, if◌then◌else◌}
@@ -13,10 +13,11 @@ use Rattle.td_engine.proofs.law_lemmas.EachOf.{all_given, of_place}
 use Rattle.td_engine.proofs.law_lemmas.Emptiness.{emptiness_is_of_additions}
 use Rattle.td_engine.proofs.law_lemmas.Gifted.{some_is}
 use Rattle.td_engine.proofs.law_lemmas.GivenValues.{source_gives}
-use Rattle.td_engine.proofs.law_lemmas.StayingConditions.{conditions_stay_in_tuples}
+use Rattle.td_engine.proofs.law_lemmas.Images.{inclusions_pass}
+use Rattle.td_engine.proofs.law_lemmas.StayingConditions.{conditions_stay_in_tuples, expressions_stay}
 use Rattle.td_engine.proofs.law_lemmas.TestsAfterDrops.{IsAsked, all_asked, tree_checked}
 use Rattle.td_engine.proofs.law_lemmas.TypedGifts.{typed_gift}
-use Rattle.td_engine.specs.Additions.{AreAdditions, AsksEach, PassesAsAdded, emptiness}
+use Rattle.td_engine.specs.Additions.{AreAdditions, AsksEach, AsksInclusion, AsksOfTuples, PassesAsAdded, emptiness}
 use Rattle.td_engine.specs.Assignments.{source_world, with_gift, with_gifts}
 use Rattle.td_engine.specs.Changes.{IsTypedChange, changed_by, given_as}
 use Rattle.td_engine.specs.Checks.{refusal_unless_passed}
@@ -37,13 +38,14 @@ use Rattle.td_eval.specs.TreeValues.{value_of}
 use Rattle.td_eval.specs.ValueLaws.{IsChecked}
 use Rattle.td_eval.specs.ValueTypes.{IsTypedTuple}
 use Rattle.td_eval.specs.Worlds.{World, known_outcome}
-use Rattle.td_check.specs.OperatorTypes.{measure_type}
+use Rattle.td_check.specs.OperatorTypes.{comparison_type, measure_type}
 use Rattle.td_check.specs.StaticTypes.{type_of}
+use Rattle.td_tree.specs.declared.operator.Comparison.TheVariants as comparisons
 use Rattle.td_tree.specs.declared.operator.Measure.TheVariants as measures
 use Rattle.td_tree.specs.Outcomes.{Valued, with_value}
-use Rattle.td_tree.specs.Trees.{Tree, measure, name, restriction}
+use Rattle.td_tree.specs.Trees.{Tree, compare, measure, name, restriction}
 use Rattle.td_types.proofs.HeadingLaws.{same_name-itself}
-use Rattle.td_types.proofs.OutcomeLaws.{value_of_with}
+use Rattle.td_types.proofs.OutcomeLaws.{value_of_with, values_of_both}
 use Rattle.td_types.specs.Types.{same_name}
 use Rattle.td_value.specs.Values.{IsRelation, Relation, Tuple, heading_of, relation_value}
 
@@ -93,6 +95,15 @@ restriction_checked db relvar p e is checked =
     let typed = value_of_with (type_of (database_scope db) (restriction (name relvar) p)) (measure_type measures.IsEmpty) own.typed.0 own.typed.1 in
     record { tuples = tt; written = own.written; typed = (typed.0, typed.1) }
 
+-- the second operand of an inclusion meets the static rules
+right_checked : (db : Database) (left right e : Tree) → e ≡ compare left comparisons.LessOrEqual right
+    → IsChecked (database_scope db) [] e → IsChecked (database_scope db) [] right
+right_checked db left right e is checked =
+    let own : IsChecked (database_scope db) [] (compare left comparisons.LessOrEqual right) = subst (IsChecked (database_scope db) []) is checked in
+    let typed =
+    values_of_both (type_of (database_scope db) left) (type_of (database_scope db) right) (comparison_type comparisons.LessOrEqual) own.typed.0 own.typed.1 in
+    record { tuples = tt; written = (own.written.0.1, own.written.1.1); typed = (typed.1, typed.3) }
+
 module _ (db : Database) (legal : IsLegal db) (relvar : List ℕ) (c : Change) (change : IsTypedChange db (relvar, c)) (is_relation : IsRelation c.add)
     (is_typed : IsTyped (with_gifts ((relvar, given_as db relvar c) ∷ []) db)) where
   abbrev base : BaseRelvar
@@ -127,31 +138,52 @@ module _ (db : Database) (legal : IsLegal db) (relvar : List ℕ) (c : Change) (
   typed_tuple : (q : Relation) → IsGift db (relvar, q) → (t : Tuple) → IsIn t q → IsTypedTuple db.types t × (heading_of t ≡ q.heading)
   typed_tuple q is t i = rows_typed db.types q (value_from_typed db.types q (typed_gift db legal.typed relvar q is)) t i
 
-  module _ (k : NamedConstraint) (asked : IsAsked db legal k) (holds : IsTrueOf (world_of db) k)
-      (asks : AsksEach relvar (reached_from (relvar ∷ []) db.virtuals) k.tree) where
-    stays : (t : Tuple) → IsTypedTuple db.types t → heading_of t ≡ base.relation.heading
-        → (value_of (world_of next) (t ∷ []) asks.condition ≡ value_of (world_of db) (t ∷ []) asks.condition)
-        × (value_of (source_world next relvar c.add) (t ∷ []) asks.condition ≡ value_of (world_of next) (t ∷ []) asks.condition)
-    stays t typed headed =
-        conditions_stay_in_tuples db relvar base gift c.add asks.condition t legal is_typed change.is.named
-        (restriction_checked db relvar asks.condition k.tree asks.is (tree_checked db legal k asked)) asks.apart typed headed
+  named_there : (source_world next relvar c.add).relvar relvar ≡ Some (Valued (relation_value c.add))
+  named_there = rw (same_name-itself relvar) refl
 
-    there : (source_world next relvar c.add).relvar relvar ≡ Some (Valued (relation_value c.add))
-    there = rw (same_name-itself relvar) refl
-
-    passes : refusal_unless_passed (by_constraint k.name) (truth_value (value_of (source_world next relvar c.add) [] k.tree))
+  module _ (k : NamedConstraint) (asked : IsAsked db legal k) (holds : IsTrueOf (world_of db) k) where
+    -- what a test comes to
+    abbrev IsAsAdded : Type 0
+    IsAsAdded =
+        refusal_unless_passed (by_constraint k.name) (truth_value (value_of (source_world next relvar c.add) [] k.tree))
         ≡ refusal_unless_passed (by_constraint k.name) (truth_value (value_of (world_of next) [] k.tree))
-    passes =
-        ap (refusal_unless_passed (by_constraint k.name)) (tested (source_world next relvar c.add) relvar asks.condition k.tree c.add asks.is there)
-        ∙ sym (emptiness_is_of_additions (by_constraint k.name) (λ t. value_of (world_of db) (t ∷ []) asks.condition)
-        (λ t. value_of (world_of next) (t ∷ []) asks.condition) (λ t. value_of (source_world next relvar c.add) (t ∷ []) asks.condition)
-        base.relation c.out c.add
-        (λ t i. let at = typed_tuple base.relation (base_gift db legal relvar base change.is.named) t i in (stays t at.0 at.1).0)
-        (λ t i. let at = typed_tuple c.add added_before t i in (stays t at.0 (at.1 ∙ change.is.headings.1)).1)
-        (sym (tested (world_of db) relvar asks.condition k.tree base.relation asks.is (base_value db relvar base change.is.named)) ∙ holds))
-        ∙ ap (λ r. refusal_unless_passed (by_constraint k.name) (emptiness (λ t. value_of (world_of next) (t ∷ []) asks.condition) r)) (sym gift_is)
+
+    module _ (asks : AsksEach relvar (reached_from (relvar ∷ []) db.virtuals) k.tree) where
+      stays : (t : Tuple) → IsTypedTuple db.types t → heading_of t ≡ base.relation.heading
+          → (value_of (world_of next) (t ∷ []) asks.condition ≡ value_of (world_of db) (t ∷ []) asks.condition)
+          × (value_of (source_world next relvar c.add) (t ∷ []) asks.condition ≡ value_of (world_of next) (t ∷ []) asks.condition)
+      stays t typed headed =
+          conditions_stay_in_tuples db relvar base gift c.add asks.condition t legal is_typed change.is.named
+          (restriction_checked db relvar asks.condition k.tree asks.is (tree_checked db legal k asked)) asks.apart typed headed
+
+      each_passes : IsAsAdded
+      each_passes =
+          ap (refusal_unless_passed (by_constraint k.name)) (tested (source_world next relvar c.add) relvar asks.condition k.tree c.add asks.is named_there)
+          ∙ sym (emptiness_is_of_additions (by_constraint k.name) (λ t. value_of (world_of db) (t ∷ []) asks.condition)
+          (λ t. value_of (world_of next) (t ∷ []) asks.condition) (λ t. value_of (source_world next relvar c.add) (t ∷ []) asks.condition)
+          base.relation c.out c.add
+          (λ t i. let at = typed_tuple base.relation (base_gift db legal relvar base change.is.named) t i in (stays t at.0 at.1).0)
+          (λ t i. let at = typed_tuple c.add added_before t i in (stays t at.0 (at.1 ∙ change.is.headings.1)).1)
+          (sym (tested (world_of db) relvar asks.condition k.tree base.relation asks.is (base_value db relvar base change.is.named)) ∙ holds))
+          ∙ ap (λ r. refusal_unless_passed (by_constraint k.name) (emptiness (λ t. value_of (world_of next) (t ∷ []) asks.condition) r)) (sym gift_is)
+          ∙ ap (refusal_unless_passed (by_constraint k.name))
+          (sym (tested (world_of next) relvar asks.condition k.tree gift asks.is (base_value next relvar (base_relvar base.name base.keys gift) named_after)))
+
+    inclusion_passes : AsksInclusion relvar (reached_from (relvar ∷ []) db.virtuals) k.tree → IsAsAdded
+    inclusion_passes asks =
+        let stays = expressions_stay db relvar gift c.add asks.right legal is_typed
+        (right_checked db asks.left asks.right k.tree asks.is (tree_checked db legal k asked)) asks.apart in
+        ap (λ e. refusal_unless_passed (by_constraint k.name) (truth_value (value_of (source_world next relvar c.add) [] e))) asks.is
         ∙ ap (refusal_unless_passed (by_constraint k.name))
-        (sym (tested (world_of next) relvar asks.condition k.tree gift asks.is (base_value next relvar (base_relvar base.name base.keys gift) named_after)))
+        (inclusions_pass asks.left asks.right relvar (world_of db) (world_of next) (source_world next relvar c.add) base.relation c.out c.add asks.image
+        change.is.headings.1 (base_value db relvar base change.is.named)
+        (base_value next relvar (base_relvar base.name base.keys gift) named_after ∙ ap (λ r. Some (Valued (relation_value r))) gift_is)
+        named_there stays.0 stays.1 (ap (λ e. truth_value (value_of (world_of db) [] e)) (sym asks.is) ∙ holds))
+        ∙ ap (λ e. refusal_unless_passed (by_constraint k.name) (truth_value (value_of (world_of next) [] e))) (sym asks.is)
+
+    passes : AsksOfTuples relvar (reached_from (relvar ∷ []) db.virtuals) k.tree → IsAsAdded
+    passes (inl each) = each_passes each
+    passes (inr inclusion) = inclusion_passes inclusion
 
   -- so constraints may be tested by what came in
   pub additions : AreAdditions (reached_from (relvar ∷ []) db.virtuals) next (relvar, c.add)

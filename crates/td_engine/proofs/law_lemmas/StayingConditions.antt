@@ -1,4 +1,4 @@
--- A condition that names nothing which a change of base relvars reaches has in each tuple the value that it had.
+-- What names nothing which a change of base relvars reaches has the value that it had, a condition in each tuple.
 use Rattle.std.proofs.Common.{◌≡◌, ◌∙◌, ◌∷◌, ◌++◌, ℕ, Bool, true, false, Contains, List, [], Option, Some, None, ap, option_map, refl, subst, sym, true≢false}
 use Rattle.std.specs.Cmp.Lexicographic.{same_text}
 use Rattle.std.specs.List.{list_any}
@@ -16,7 +16,7 @@ use Rattle.td_check.specs.StaticLaws.{AgreeAt, UsersAllIn}
 use Rattle.td_check.specs.StaticTypes.{type_of}
 use Rattle.td_check.specs.WrittenNames.{names_in}
 use Rattle.td_engine.proofs.code_lemmas.UnreachedChecks.{gifts_differ}
-use Rattle.td_engine.specs.Additions.{ConditionsStayInTuples}
+use Rattle.td_engine.specs.Additions.{ConditionsStayInTuples, ExpressionsStay}
 use Rattle.td_engine.specs.Assignments.{Given, source_world, with_gifts}
 use Rattle.td_eval.proofs.code_lemmas.WorldParts.{world_scope, world_selectors}
 use Rattle.td_eval.proofs.law_lemmas.DistinctNames.{has_first}
@@ -231,3 +231,12 @@ conditions_stay_in_tuples db relvar base gift other condition t legal is_typed a
     let after = same_after db given legal.typed is_typed (t ∷ []) condition here none in
     let changed : has_name relvar (relvar ∷ []) ≡ true = ap (λ b. b || false) (same_name-itself relvar) in
     (after, same_in_source db given legal.typed is_typed relvar other changed (t ∷ []) condition here none ∙ sym after)
+
+-- ---- expressions in which no tuple is in scope
+
+pub expressions_stay : ExpressionsStay
+expressions_stay db relvar gift other e legal is_typed checked none =
+    let given : Given = (relvar, gift) ∷ [] in
+    let after = same_after db given legal.typed is_typed [] e checked none in
+    let changed : has_name relvar (relvar ∷ []) ≡ true = ap (λ b. b || false) (same_name-itself relvar) in
+    (after, same_in_source db given legal.typed is_typed relvar other changed [] e checked none ∙ sym after)
