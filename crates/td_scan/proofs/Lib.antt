@@ -1,3 +1,4 @@
+pub mod BlankLaws
 pub mod CourseLaws
 pub mod FirstLaws
 pub mod HeldMarks
@@ -6,5 +7,6 @@ pub mod LastLaws
 pub mod MarkLaws
 pub mod MarkLists
 pub mod NoEnds
+pub mod RunLaws
 pub mod ScanLaws
 pub mod TakenLaws

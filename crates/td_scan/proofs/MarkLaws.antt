@@ -1,12 +1,12 @@
 -- The marks of tokens that are read piece by piece, whatever follows.
-use Rattle.std.proofs.Common.{◌≡◌, ℕ, ◌+◌, List, [], ◌∷◌, ◌++◌, length, take, drop, map, refl, sym, ap, ◌∙◌, arith, Some, None, length-append}
+use Rattle.std.proofs.Common.{◌≡◌, ℕ, ◌+◌, List, [], ◌∷◌, ◌++◌, length, take, drop, map, refl, sym, ap, ◌∙◌, arith, Option, Some, None, append-nil, length-append, ◌≤◌}
 use Rattle.std.proofs.lemmas.List.{drop-append-le, length-take, take-append-le}
 use Rattle.td_tree.specs.declared.token.Kind.{Kind}
 use Rattle.td_tree.specs.Pieces.{kind_after}
 use Rattle.td_tree.specs.Statements.{token_of, tokens}
 use Rattle.td_scan.specs.declared.piece.First.{First}
 use Rattle.td_scan.specs.declared.token.Mark.{Mark}
-use Rattle.td_scan.specs.code.Marks.{IsBegun, IsFirst, end_of_marks, mark_of, marks_of}
+use Rattle.td_scan.specs.code.Marks.{IsBegun, IsFirst, end_of_marks, mark_if, mark_of, marks_of}
 use Rattle.td_scan.proofs.FirstLaws.{tokens_of_first}
 
 -- of a piece nothing was read
@@ -46,3 +46,18 @@ kept_more old new m kept = take-append-le (length old) new (m ∷ []) (omega (ar
 pub end_more : (low : ℕ) (ms : List Mark) (m : Mark) → end_of_marks low (ms ++ m ∷ []) ≡ m.stop
 end_more low [] m = refl
 end_more low (x ∷ ms) m = end_more x.stop ms m
+
+-- ---- of a piece of any kind
+
+pub piece_marked : (bs : List ℕ) (f : First) (at : ℕ) (kind : Option Kind) → IsFirst bs f → kind ≡ kind_after f.piece (take f.length bs) → (later : List ℕ)
+    → marks_of at (bs ++ later) ≡ mark_if kind at (at + f.length) ++ marks_of (at + f.length) (drop f.length bs ++ later)
+piece_marked bs f at None first is later = mark_none bs f at first (sym is) later
+piece_marked bs f at (Some kind) first is later = mark_more bs f at kind first (sym is) later
+
+pub kept_if : (old new : List Mark) (kind : Option Kind) (start stop : ℕ) → take (length old) new ≡ old → take (length old) (new ++ mark_if kind start stop) ≡ old
+kept_if old new None start stop kept = ap (take (length old)) (append-nil new) ∙ kept
+kept_if old new (Some kind) start stop kept = kept_more old new (record { kind = kind; start = start; stop = stop }) kept
+
+pub past_if : (low : ℕ) (ms : List Mark) (kind : Option Kind) (start stop : ℕ) → end_of_marks low ms ≤ start → start ≤ stop → end_of_marks low (ms ++ mark_if kind start stop) ≤ stop
+past_if low ms None start stop past more = omega (arith, ap (end_of_marks low) (append-nil ms))
+past_if low ms (Some kind) start stop past more = omega (arith, end_more low ms (record { kind = kind; start = start; stop = stop }))

@@ -6,5 +6,6 @@ pub mod laws;
 mod piece;
 mod queue;
 mod reading;
+mod run;
 mod symbol;
 pub mod token;

@@ -1,20 +1,22 @@
 //! Reading bytes behind which others may come: what is known stays.
 ghost use Rattle.std.specs.Prelude.{◌≡◌, ◌+◌, ◌-◌, ◌<◌, ◌≤◌, ◌^◌, ◌++◌, ℕ, List, IfOk};
-ghost use Rattle.std.specs.Prelude.{IfErr, IfNone, IsFalse, IsTrue, None, OnErr, drop, length};
-ghost use Rattle.std.specs.Prelude.{take};
+ghost use Rattle.std.specs.Prelude.{IfErr, IfNone, IsFalse, IsTrue, None, OnErr, OnOk, drop};
+ghost use Rattle.std.specs.Prelude.{length, take};
 ghost use Rattle.td_scan.specs.code.Fronts.{end_from};
-ghost use Rattle.td_scan.specs.code.Marks.{IsBegun, IsFirst, IsRead, is_end_piece, read_of};
+ghost use Rattle.td_scan.specs.code.Marks.{IsBegun, IsFirst, IsRead, is_end_piece, mark_if};
+ghost use Rattle.td_scan.specs.code.Marks.{read_of};
 ghost use Rattle.td_tree.specs.Division.{up_to};
 ghost use Rattle.td_tree.specs.Statements.{ends, tokens};
 ghost use Rattle.td_tree.specs.Symbols.{symbols};
 
 use crate::piece::First;
 use crate::queue::Queue;
+use crate::run::{blank_length, is_ended, is_whole, kind, opens_ascii, run_length};
 use crate::symbol::known_front;
 use crate::token::Mark;
 use std::alloc::AllocError;
 use td_tree::piece::Piece;
-use td_tree::token::Sign;
+use td_tree::token::{Kind, Sign};
 
 /// How far a piece goes in some bytes.
 #[derive(Clone, Copy)]
@@ -42,26 +44,32 @@ fn go_on(begun: First, bytes: &[u8]) -> Way
     let mut piece = begun.piece;
     let mut length = begun.length;
     let mut rest = bytes;
-    while let Some(front) = known_front(rest) {
-        let Some(longer) = piece.goes_on(front.character) else {
+    loop {
+        let run = run_length(piece, rest);
+        let (_, behind) = rest.split_at(run);
+        length += run;
+        let first = First { length, piece };
+        if is_ended(piece, behind) {
+            return Way { first, ended: true };
+        }
+        let Some(front) = known_front(behind) else {
             return Way {
-                first: First { length, piece },
-                ended: true,
+                first,
+                ended: false,
             };
         };
-        let (_, after) = rest.split_at(front.size);
+        let Some(longer) = piece.goes_on(front.character) else {
+            return Way { first, ended: true };
+        };
+        let (_, after) = behind.split_at(front.size);
         piece = longer;
         length += front.size;
         rest = after;
     }
-    Way {
-        first: First { length, piece },
-        ended: false,
-    }
 }
 
 /// The piece that the first symbol begins, where it is known.
-fn begin(bytes: &[u8]) -> Option<First>
+fn begin_wide(bytes: &[u8]) -> Option<First>
     ensures begun { IsBegun bytes.now result }
     ensures waits { IfNone result (length bytes.now < 4) }
 {
@@ -70,6 +78,25 @@ fn begin(bytes: &[u8]) -> Option<First>
         length: front.size,
         piece: Piece::opens(front.character),
     })
+}
+
+/// The piece that the first symbol begins, where it is known: most often it is ASCII.
+#[inline]
+fn begin(bytes: &[u8]) -> Option<First>
+    ensures begun { IsBegun bytes.now result }
+    ensures waits { IfNone result (length bytes.now < 4) }
+{
+    if bytes.is_empty() {
+        return None;
+    }
+    let byte = bytes[0];
+    if byte < 128 {
+        return Some(First {
+            length: 1,
+            piece: opens_ascii(byte),
+        });
+    }
+    begin_wide(bytes)
 }
 
 /// Reads on in the first piece of the bytes, of which so much was read: the piece, where it ends;
@@ -83,6 +110,9 @@ fn first_known(begun: Option<First>, bytes: &[u8]) -> Result<First, Option<First
     let Some(begun) = begun.or_else(|| begin(bytes)) else {
         return Err(None);
     };
+    if is_whole(begun.piece) {
+        return Ok(begun);
+    }
     let (_, rest) = bytes.split_at(begun.length);
     let way = go_on(begun, rest);
     if way.ended {
@@ -97,6 +127,23 @@ fn first_known(begun: Option<First>, bytes: &[u8]) -> Result<First, Option<First
 pub(crate) struct Place {
     pub(crate) start: u64,
     pub(crate) begun: Option<First>,
+}
+
+/// Puts the mark of a piece behind the others, if it is a token.
+#[inline]
+fn put_mark(
+    marks: &mut Queue<Mark>,
+    kind: Option<Kind>,
+    start: u64,
+    stop: u64,
+) -> Result<(), AllocError>
+    ensures ok { OnOk result (marks.new ≡ marks.old ++ mark_if kind start stop) }
+    ensures err { OnErr result (marks.new ≡ marks.old) }
+{
+    match kind {
+        Some(kind) => marks.push(Mark { kind, start, stop }),
+        None => Ok(()),
+    }
 }
 
 /// Reads on from a place, puts the marks of the tokens that end behind the others, and answers
@@ -121,11 +168,10 @@ pub(crate) fn read_on(
         };
         let (text, after) = rest.split_at(first.length);
         let stop = start + first.length as u64;
-        if let Some(kind) = first.piece.kind(text) {
-            marks.push(Mark { kind, start, stop })?;
-        }
-        start = stop;
-        rest = after;
+        put_mark(marks, kind(first.piece, text), start, stop)?;
+        let blanks = blank_length(after);
+        start = stop + blanks as u64;
+        rest = after.split_at(blanks).1;
         begun = None;
     }
 }

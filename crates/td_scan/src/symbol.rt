@@ -109,8 +109,26 @@ fn is_known(bytes: &[u8]) -> bool
     bytes.len() >= char_size(bytes[0]) || has_ascii(bytes)
 }
 
+/// The symbol at the front of bytes of which the first is no ASCII, where it is the same whatever
+/// follows the bytes.
+fn wide_front(bytes: &[u8]) -> Option<Front>
+    requires { 0 < length bytes.now }
+    ensures step { IfSome result (λ front. (later : List ℕ) → symbols (bytes.now ++ later)
+        ≡ (record { character = front.character; text = take front.size bytes.now })
+        ∷ symbols (drop front.size bytes.now ++ later)) }
+    ensures some { IfSome result (λ front. 0 < front.size) }
+    ensures within { IfSome result (λ front. front.size ≤ length bytes.now) }
+    ensures none { IfNone result (length bytes.now < 4) }
+{
+    if !is_known(bytes) {
+        return None;
+    }
+    Some(wide_symbol(bytes))
+}
+
 /// The symbol at the front, where it is the same whatever follows the bytes. Where there are four
 /// bytes it is.
+#[inline]
 pub fn known_front(bytes: &[u8]) -> Option<Front>
     ensures step { IfSome result (λ front. (later : List ℕ) → symbols (bytes.now ++ later)
         ≡ (record { character = front.character; text = take front.size bytes.now })
@@ -119,8 +137,15 @@ pub fn known_front(bytes: &[u8]) -> Option<Front>
     ensures within { IfSome result (λ front. front.size ≤ length bytes.now) }
     ensures none { IfNone result (length bytes.now < 4) }
 {
-    if bytes.is_empty() || !is_known(bytes) {
+    if bytes.is_empty() {
         return None;
     }
-    Some(symbol_at_front(bytes))
+    let first = bytes[0];
+    if first < 128 {
+        return Some(Front {
+            character: Some(first as char),
+            size: 1,
+        });
+    }
+    wide_front(bytes)
 }

@@ -7,6 +7,7 @@ use Rattle.td_scan.specs.declared.token.Mark.{Mark}
 use Rattle.td_scan.specs.code.Fronts.{end_from, first_end}
 use Rattle.td_tree.specs.declared.piece.Piece.{Piece}
 use Rattle.td_tree.specs.declared.piece.Piece.TheVariants as pieces_are
+use Rattle.td_tree.specs.declared.token.Kind.{Kind}
 use Rattle.td_tree.specs.declared.token.Sign.TheVariants as signs
 use Rattle.td_tree.specs.Division.{up_to}
 use Rattle.td_tree.specs.Pieces.{kind_of}
@@ -21,6 +22,11 @@ mark_of t = record { kind = t.kind; start = t.start; stop = t.stop }
 -- the marks of the tokens of these bytes
 abbrev pub marks_of : ℕ → List ℕ → List Mark
 marks_of at bytes = map mark_of (tokens at bytes)
+
+-- the mark of a piece of this kind; none where it is no token
+abbrev pub mark_if : Option Kind → ℕ → ℕ → List Mark
+mark_if None start stop = []
+mark_if (Some kind) start stop = record { kind = kind; start = start; stop = stop } ∷ []
 
 -- the token of a mark in bytes that begin at this offset
 abbrev pub token_at : ℕ → List ℕ → Mark → PlacedToken
