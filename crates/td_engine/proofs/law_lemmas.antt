@@ -18,8 +18,8 @@ pub mod GiftsInTurn
 pub mod GivenRelations
 pub mod GivenValues
 pub mod Images
+pub mod ImageTests
 pub mod InOrder
-pub mod Inclusions
 pub mod Kept
 pub mod KeptLegal
 pub mod LegalChanges

@@ -1,6 +1,6 @@
 -- Constraints that may be tested by the tuples that come into a relvar: they ask of each of its tuples, by a condition or an expression
 -- that names nothing which a change of it reaches (this project's own).
-use Rattle.std.specs.Prelude.{◌≡◌, ◌⊎◌, ℕ, Bool, true, false, List, [], ◌∷◌, Some, map}
+use Rattle.std.specs.Prelude.{◌≡◌, ◌⊎◌, ⊤, ℕ, Bool, true, false, List, [], ◌∷◌, Some, map}
 use Rattle.std.specs.List.{AllByRecursion, list_all}
 use Rattle.td_algebra.specs.Membership.{IsIn}
 use Rattle.td_body.specs.Bodies.{after_change}
@@ -20,10 +20,11 @@ use Rattle.td_eval.specs.ValueLaws.{IsChecked}
 use Rattle.td_eval.specs.ValueTypes.{IsTypedTuple}
 use Rattle.td_tree.specs.declared.operator.Comparison.TheVariants as comparisons
 use Rattle.td_tree.specs.declared.operator.Measure.TheVariants as measures
+use Rattle.td_tree.specs.declared.operator.Operator.{Operator}
+use Rattle.td_tree.specs.declared.operator.Operator.TheVariants as operators
 use Rattle.td_tree.specs.Outcomes.{Outcome, Valued, with_value}
-use Rattle.td_tree.specs.Trees.{Tree, compare, measure, name, parentheses, postfix, project, rename, restriction}
-use Rattle.td_value.specs.Sets.{has}
-use Rattle.td_value.specs.Values.{Relation, Tuple, Val, heading_of, tuple_cmp}
+use Rattle.td_tree.specs.Trees.{Tree, binary, compare, measure, name, parentheses, postfix, project, rename, restriction}
+use Rattle.td_value.specs.Values.{Relation, Tuple, Val, heading_of}
 
 -- the expression is that no tuple of the relvar meets a condition that names none of those that are reached
 pub record AsksEach (relvar : List ℕ) (reached : List (List ℕ)) (e : Tree) : Type 0 where
@@ -39,17 +40,40 @@ IsImageOf relvar (postfix operand (project attributes)) = IsImageOf relvar opera
 IsImageOf relvar (postfix operand (rename style renamings)) = IsImageOf relvar operand
 IsImageOf relvar _ = ⊥
 
--- the expression is that such an image of the relvar is included in what names none of those that are reached
-pub record AsksInclusion (relvar : List ℕ) (reached : List (List ℕ)) (e : Tree) : Type 0 where
-  pub left : Tree
-  pub right : Tree
-  pub is : e ≡ compare left comparisons.LessOrEqual right
-  pub image : IsImageOf relvar left
-  pub apart : names_any reached right ≡ false
+-- the first is such an image of the relvar, and the second names none of those that are reached
+abbrev pub IsImageBeside : List ℕ → List (List ℕ) → Tree → Tree → Type 0
+IsImageBeside relvar reached image other = IsImageOf relvar image × (names_any reached other ≡ false)
+
+-- the expression is that such an image is included in what stands beside it, in parentheses or not
+abbrev pub AsksInclusion : List ℕ → List (List ℕ) → Tree → Type 0
+AsksInclusion relvar reached (parentheses inner) = AsksInclusion relvar reached inner
+AsksInclusion relvar reached (compare left comparisons.LessOrEqual right) = IsImageBeside relvar reached left right
+AsksInclusion relvar reached (compare left comparisons.GreaterOrEqual right) = IsImageBeside relvar reached right left
+AsksInclusion relvar reached _ = ⊥
+
+-- the operator keeps tuples of its first operand, each by a test of it and the second
+abbrev pub KeepsOfFirst : Operator → Type 0
+KeepsOfFirst operators.Intersect = ⊤
+KeepsOfFirst operators.Minus = ⊤
+KeepsOfFirst operators.Matching = ⊤
+KeepsOfFirst operators.NotMatching = ⊤
+KeepsOfFirst _ = ⊥
+
+-- the expression keeps such tuples of an image of the relvar, by what names none of those that are reached
+abbrev pub KeepsOfImage : List ℕ → List (List ℕ) → Tree → Type 0
+KeepsOfImage relvar reached (parentheses inner) = KeepsOfImage relvar reached inner
+KeepsOfImage relvar reached (binary left op right) = KeepsOfFirst op × IsImageBeside relvar reached left right
+KeepsOfImage relvar reached _ = ⊥
+
+-- the expression is that no tuple of an image is kept so
+abbrev pub AsksNoneKept : List ℕ → List (List ℕ) → Tree → Type 0
+AsksNoneKept relvar reached (parentheses inner) = AsksNoneKept relvar reached inner
+AsksNoneKept relvar reached (measure measures.IsEmpty operand) = KeepsOfImage relvar reached operand
+AsksNoneKept relvar reached _ = ⊥
 
 -- the expression asks of each tuple of the relvar, in one of these forms
 abbrev pub AsksOfTuples : List ℕ → List (List ℕ) → Tree → Type 0
-AsksOfTuples relvar reached e = AsksEach relvar reached e ⊎ AsksInclusion relvar reached e
+AsksOfTuples relvar reached e = AsksEach relvar reached e ⊎ (AsksInclusion relvar reached e ⊎ AsksNoneKept relvar reached e)
 
 -- the test of such a constraint comes to the same where the relvar's name means the tuples that came in alone
 abbrev pub PassesAsAdded : List (List ℕ) → Database → List ℕ × Relation → NamedConstraint → Type 0
@@ -65,9 +89,9 @@ pub record AreAdditions (reached : List (List ℕ)) (db : Database) (added : Lis
 abbrev pub emptiness : (Tuple → Outcome Val) → Relation → Outcome Bool
 emptiness f r = truth_value (with_value (restricted_value f r) (measure_value measures.IsEmpty))
 
--- whether each tuple of a relation has its image in another
-abbrev pub images_are_in : (Tuple → Tuple) → Relation → Relation → Bool
-images_are_in image into r = list_all (λ t. has tuple_cmp t into.body) (map image r.body)
+-- whether the image of each tuple of a relation passes a test
+abbrev pub images_pass : (Tuple → Bool) → (Tuple → Tuple) → Relation → Bool
+images_pass test image r = list_all test (map image r.body)
 
 -- ---- laws
 
@@ -93,11 +117,11 @@ ConditionsStayInTuples =
     × (value_of (source_world (with_gifts ((relvar, gift) ∷ []) db) relvar other) (t ∷ []) condition
     ≡ value_of (world_of (with_gifts ((relvar, gift) ∷ []) db)) (t ∷ []) condition)
 
--- where each tuple of a relation had its image in another before, each has after a change exactly where each that came in has
-abbrev pub InclusionsAreOfAdditions : Type 0
-InclusionsAreOfAdditions =
-    (image : Tuple → Tuple) (old out add into : Relation) → images_are_in image into old ≡ true
-    → images_are_in image into (after_change out add old) ≡ images_are_in image into add
+-- where the image of each tuple of a relation passed a test before, each does after a change exactly where each does of what came in
+abbrev pub ImageTestsAreOfAdditions : Type 0
+ImageTestsAreOfAdditions =
+    (test : Tuple → Bool) (image : Tuple → Tuple) (old out add : Relation) → images_pass test image old ≡ true
+    → images_pass test image (after_change out add old) ≡ images_pass test image add
 
 -- an expression that names nothing which a change of a base relvar reaches has the value that it had, or the same causes, also where
 -- the relvar's name means another relation

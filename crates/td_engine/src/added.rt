@@ -2,7 +2,8 @@
 //! its tuples, by a condition or an expression that names nothing which the change reaches.
 ghost use Rattle.std.specs.Prelude.{◌≡◌, ℕ, List, false, true};
 ghost use Rattle.td_catalog.specs.NamedRelvars.{names_any};
-ghost use Rattle.td_engine.specs.Additions.{AsksEach, AsksInclusion, AsksOfTuples, IsImageOf};
+ghost use Rattle.td_engine.specs.Additions.{AsksEach, AsksInclusion, AsksNoneKept, AsksOfTuples};
+ghost use Rattle.td_engine.specs.Additions.{IsImageBeside, IsImageOf, KeepsOfFirst, KeepsOfImage};
 ghost use Rattle.td_engine.specs.code.Restrictions.{IsRestrictionApart};
 ghost use Rattle.td_tree.specs.Trees as trees;
 ghost use Rattle.td_tree.specs.code.TreeViews.{tree_view};
@@ -12,7 +13,7 @@ use td_catalog::marked_names::MarkedNames;
 use td_check::names::names_in;
 use td_tree::expression::{Expr, Postfix};
 use td_tree::name::Name;
-use td_tree::operator::{Comparison, Measure};
+use td_tree::operator::{Comparison, Measure, Operator};
 use td_value::relation::Rel;
 
 /// The one base relvar that a statement changed, and the tuples that came into it.
@@ -83,18 +84,77 @@ fn is_image(expr: &Expr, relvar: &Name) -> bool
     }
 }
 
+/// Whether the first is such an image of the relvar, and the second names none of those reached.
+fn is_image_beside(
+    alloc: Global,
+    image: &Expr,
+    other: &Expr,
+    relvar: &Name,
+    reached: &MarkedNames,
+) -> bool
+    ensures { result ≡ true
+        → IsImageBeside relvar.now reached.now (tree_view image.now) (tree_view other.now) }
+{
+    if !is_image(image, relvar) {
+        return false;
+    }
+    !may_name(alloc, other, reached)
+}
+
 /// Whether the expression is that such an image of the relvar is included in what names none of
 /// those reached.
 fn asks_inclusion(alloc: Global, expr: &Expr, relvar: &Name, reached: &MarkedNames) -> bool
     ensures { result ≡ true → AsksInclusion relvar.now reached.now (tree_view expr.now) }
 {
     match expr {
+        Expr::Parentheses(inner) => asks_inclusion(alloc, inner, relvar, reached),
         Expr::Compare(left, Comparison::LessOrEqual, right) => {
-            if !is_image(left, relvar) {
+            is_image_beside(alloc, left, right, relvar, reached)
+        }
+        Expr::Compare(left, Comparison::GreaterOrEqual, right) => {
+            is_image_beside(alloc, right, left, relvar, reached)
+        }
+        _ => false,
+    }
+}
+
+/// Whether the operator keeps tuples of its first operand, each by a test of it and the second.
+fn keeps_of_first(operator: Operator) -> bool
+    ensures { result ≡ true → KeepsOfFirst operator }
+{
+    match operator {
+        Operator::Intersect => true,
+        Operator::Minus => true,
+        Operator::Matching => true,
+        Operator::NotMatching => true,
+        _ => false,
+    }
+}
+
+/// Whether the expression keeps such tuples of an image of the relvar, by what names none of those
+/// reached.
+fn keeps_of_image(alloc: Global, expr: &Expr, relvar: &Name, reached: &MarkedNames) -> bool
+    ensures { result ≡ true → KeepsOfImage relvar.now reached.now (tree_view expr.now) }
+{
+    match expr {
+        Expr::Parentheses(inner) => keeps_of_image(alloc, inner, relvar, reached),
+        Expr::Binary(left, operator, right) => {
+            if !keeps_of_first(*operator) {
                 return false;
             }
-            !may_name(alloc, right, reached)
+            is_image_beside(alloc, left, right, relvar, reached)
         }
+        _ => false,
+    }
+}
+
+/// Whether the expression is that no tuple of such an image is kept.
+fn asks_none_kept(alloc: Global, expr: &Expr, relvar: &Name, reached: &MarkedNames) -> bool
+    ensures { result ≡ true → AsksNoneKept relvar.now reached.now (tree_view expr.now) }
+{
+    match expr {
+        Expr::Parentheses(inner) => asks_none_kept(alloc, inner, relvar, reached),
+        Expr::Measure(Measure::IsEmpty, operand) => keeps_of_image(alloc, operand, relvar, reached),
         _ => false,
     }
 }
@@ -111,5 +171,8 @@ pub(crate) fn asks_of_tuples(
     if asks_each(alloc, expr, relvar, reached) {
         return true;
     }
-    asks_inclusion(alloc, expr, relvar, reached)
+    if asks_inclusion(alloc, expr, relvar, reached) {
+        return true;
+    }
+    asks_none_kept(alloc, expr, relvar, reached)
 }

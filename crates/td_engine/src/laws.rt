@@ -1,7 +1,7 @@
 //! Laws of the set machine: each function has its contract alone.
 ghost use Rattle.std.specs.Prelude.{◌≡◌, ◌≢◌, Bool, List, None};
 ghost use Rattle.td_engine.specs.Additions.{ConditionsStayInTuples, EmptinessIsOfAdditions};
-ghost use Rattle.td_engine.specs.Additions.{ExpressionsStay, InclusionsAreOfAdditions};
+ghost use Rattle.td_engine.specs.Additions.{ExpressionsStay, ImageTestsAreOfAdditions};
 ghost use Rattle.td_engine.specs.Machine.{Progress, Runs, State, Step, Steps};
 ghost use Rattle.td_engine.specs.Rebuilding.{DumpsRebuild};
 ghost use Rattle.td_engine.specs.LegalityLaws.{AcceptedStatementsKeepLegality, RunsKeepLegality};
@@ -61,10 +61,10 @@ pub fn conditions_stay_in_tuples()
     ensures { ConditionsStayInTuples }
 {}
 
-/// After a change of a relation, whether each of its tuples has its image in another, where each
-/// had it before, depends on those that came in.
-pub fn inclusions_are_of_additions()
-    ensures { InclusionsAreOfAdditions }
+/// After a change of a relation, whether the image of each of its tuples passes a test, where each
+/// passed it before, depends on those that came in.
+pub fn image_tests_are_of_additions()
+    ensures { ImageTestsAreOfAdditions }
 {}
 
 /// An expression that names nothing which a change of a base relvar reaches has the value that it

@@ -13,11 +13,11 @@ use Rattle.td_engine.proofs.law_lemmas.EachOf.{all_given, of_place}
 use Rattle.td_engine.proofs.law_lemmas.Emptiness.{emptiness_is_of_additions}
 use Rattle.td_engine.proofs.law_lemmas.Gifted.{some_is}
 use Rattle.td_engine.proofs.law_lemmas.GivenValues.{source_gives}
-use Rattle.td_engine.proofs.law_lemmas.Images.{inclusions_pass}
+use Rattle.td_engine.proofs.law_lemmas.Images.{AsksTuples, Question, answers_pass, inclusion, inclusion_asks, keeps_none, keeps_none_asks, superset, superset_asks}
 use Rattle.td_engine.proofs.law_lemmas.StayingConditions.{conditions_stay_in_tuples, expressions_stay}
 use Rattle.td_engine.proofs.law_lemmas.TestsAfterDrops.{IsAsked, all_asked, tree_checked}
 use Rattle.td_engine.proofs.law_lemmas.TypedGifts.{typed_gift}
-use Rattle.td_engine.specs.Additions.{AreAdditions, AsksEach, AsksInclusion, AsksOfTuples, PassesAsAdded, emptiness}
+use Rattle.td_engine.specs.Additions.{AreAdditions, AsksEach, AsksInclusion, AsksNoneKept, AsksOfTuples, IsImageBeside, KeepsOfImage, PassesAsAdded, emptiness}
 use Rattle.td_engine.specs.Assignments.{source_world, with_gift, with_gifts}
 use Rattle.td_engine.specs.Changes.{IsTypedChange, changed_by, given_as}
 use Rattle.td_engine.specs.Checks.{refusal_unless_passed}
@@ -38,12 +38,12 @@ use Rattle.td_eval.specs.TreeValues.{value_of}
 use Rattle.td_eval.specs.ValueLaws.{IsChecked}
 use Rattle.td_eval.specs.ValueTypes.{IsTypedTuple}
 use Rattle.td_eval.specs.Worlds.{World, known_outcome}
-use Rattle.td_check.specs.OperatorTypes.{comparison_type, measure_type}
+use Rattle.td_check.specs.OperatorTypes.{comparison_type, measure_type, operator_type}
 use Rattle.td_check.specs.StaticTypes.{type_of}
 use Rattle.td_tree.specs.declared.operator.Comparison.TheVariants as comparisons
 use Rattle.td_tree.specs.declared.operator.Measure.TheVariants as measures
 use Rattle.td_tree.specs.Outcomes.{Valued, with_value}
-use Rattle.td_tree.specs.Trees.{Tree, compare, measure, name, restriction}
+use Rattle.td_tree.specs.Trees.{Tree, binary, compare, measure, name, parentheses, restriction}
 use Rattle.td_types.proofs.HeadingLaws.{same_name-itself}
 use Rattle.td_types.proofs.OutcomeLaws.{value_of_with, values_of_both}
 use Rattle.td_types.specs.Types.{same_name}
@@ -95,14 +95,94 @@ restriction_checked db relvar p e is checked =
     let typed = value_of_with (type_of (database_scope db) (restriction (name relvar) p)) (measure_type measures.IsEmpty) own.typed.0 own.typed.1 in
     record { tuples = tt; written = own.written; typed = (typed.0, typed.1) }
 
--- the second operand of an inclusion meets the static rules
-right_checked : (db : Database) (left right e : Tree) → e ≡ compare left comparisons.LessOrEqual right
-    → IsChecked (database_scope db) [] e → IsChecked (database_scope db) [] right
-right_checked db left right e is checked =
-    let own : IsChecked (database_scope db) [] (compare left comparisons.LessOrEqual right) = subst (IsChecked (database_scope db) []) is checked in
-    let typed =
-    values_of_both (type_of (database_scope db) left) (type_of (database_scope db) right) (comparison_type comparisons.LessOrEqual) own.typed.0 own.typed.1 in
-    record { tuples = tt; written = (own.written.0.1, own.written.1.1); typed = (typed.1, typed.3) }
+-- a constraint that asks of an image of a relvar, beside what names none of those that are reached
+record AsksOfImage (db : Database) (relvar : List ℕ) (reached : List (List ℕ)) (e : Tree) : Type 0 where
+  ask : Question
+  asks : AsksTuples ask
+  left : Tree
+  right : Tree
+  is : (w : World) → value_of w [] e ≡ ask (value_of w [] left) (value_of w [] right)
+  beside : IsImageBeside relvar reached left right
+  checked : IsChecked (database_scope db) [] e → IsChecked (database_scope db) [] right
+
+module _ (db : Database) (relvar : List ℕ) (reached : List (List ℕ)) where
+  -- in parentheses it asks the same
+  in_parentheses : (e : Tree) → AsksOfImage db relvar reached e → AsksOfImage db relvar reached (parentheses e)
+  in_parentheses e x =
+      record {
+        ask = x.ask;
+        asks = x.asks;
+        left = x.left;
+        right = x.right;
+        is = x.is;
+        beside = x.beside;
+        checked = λ own. x.checked (record { tuples = tt; written = own.written; typed = own.typed });
+      }
+
+  -- inclusions ask so
+  of_inclusion : (e : Tree) → AsksInclusion relvar reached e → AsksOfImage db relvar reached e
+  of_inclusion (parentheses inner) x = in_parentheses inner (of_inclusion inner x)
+  of_inclusion (compare left comparisons.LessOrEqual right) x =
+      record {
+        ask = inclusion;
+        asks = inclusion_asks;
+        left = left;
+        right = right;
+        is = λ w. refl;
+        beside = x;
+        checked = λ own.
+            let typed =
+            values_of_both (type_of (database_scope db) left) (type_of (database_scope db) right) (comparison_type comparisons.LessOrEqual) own.typed.0 own.typed.1 in
+            record { tuples = tt; written = (own.written.0.1, own.written.1.1); typed = (typed.1, typed.3) };
+      }
+  of_inclusion (compare left comparisons.GreaterOrEqual right) x =
+      record {
+        ask = superset;
+        asks = superset_asks;
+        left = right;
+        right = left;
+        is = λ w. refl;
+        beside = x;
+        checked = λ own.
+            let typed =
+            values_of_both (type_of (database_scope db) left) (type_of (database_scope db) right) (comparison_type comparisons.GreaterOrEqual) own.typed.0 own.typed.1 in
+            record { tuples = tt; written = (own.written.0.0, own.written.1.0); typed = (typed.0, typed.2) };
+      }
+  of_inclusion _ x = absurd x
+
+  -- and so do tests that no tuple is kept
+  of_kept : (e : Tree) → KeepsOfImage relvar reached e → AsksOfImage db relvar reached (measure measures.IsEmpty e)
+  of_kept (parentheses inner) x =
+      let y = of_kept inner x in
+      record {
+        ask = y.ask;
+        asks = y.asks;
+        left = y.left;
+        right = y.right;
+        is = y.is;
+        beside = y.beside;
+        checked = λ own. y.checked (record { tuples = tt; written = own.written; typed = own.typed });
+      }
+  of_kept (binary left op right) x =
+      record {
+        ask = keeps_none op;
+        asks = keeps_none_asks op x.0;
+        left = left;
+        right = right;
+        is = λ w. refl;
+        beside = x.1;
+        checked = λ own.
+            let whole =
+            value_of_with (type_of (database_scope db) (binary left op right)) (measure_type measures.IsEmpty) own.typed.0 own.typed.1 in
+            let typed = values_of_both (type_of (database_scope db) left) (type_of (database_scope db) right) (operator_type op) whole.0 whole.1 in
+            record { tuples = tt; written = (own.written.0.1, own.written.1.1); typed = (typed.1, typed.3) };
+      }
+  of_kept _ x = absurd x
+
+  of_none_kept : (e : Tree) → AsksNoneKept relvar reached e → AsksOfImage db relvar reached e
+  of_none_kept (parentheses inner) x = in_parentheses inner (of_none_kept inner x)
+  of_none_kept (measure measures.IsEmpty operand) x = of_kept operand x
+  of_none_kept _ x = absurd x
 
 module _ (db : Database) (legal : IsLegal db) (relvar : List ℕ) (c : Change) (change : IsTypedChange db (relvar, c)) (is_relation : IsRelation c.add)
     (is_typed : IsTyped (with_gifts ((relvar, given_as db relvar c) ∷ []) db)) where
@@ -169,21 +249,19 @@ module _ (db : Database) (legal : IsLegal db) (relvar : List ℕ) (c : Change) (
           ∙ ap (refusal_unless_passed (by_constraint k.name))
           (sym (tested (world_of next) relvar asks.condition k.tree gift asks.is (base_value next relvar (base_relvar base.name base.keys gift) named_after)))
 
-    inclusion_passes : AsksInclusion relvar (reached_from (relvar ∷ []) db.virtuals) k.tree → IsAsAdded
-    inclusion_passes asks =
-        let stays = expressions_stay db relvar gift c.add asks.right legal is_typed
-        (right_checked db asks.left asks.right k.tree asks.is (tree_checked db legal k asked)) asks.apart in
-        ap (λ e. refusal_unless_passed (by_constraint k.name) (truth_value (value_of (source_world next relvar c.add) [] e))) asks.is
-        ∙ ap (refusal_unless_passed (by_constraint k.name))
-        (inclusions_pass asks.left asks.right relvar (world_of db) (world_of next) (source_world next relvar c.add) base.relation c.out c.add asks.image
-        change.is.headings.1 (base_value db relvar base change.is.named)
+    image_passes : AsksOfImage db relvar (reached_from (relvar ∷ []) db.virtuals) k.tree → IsAsAdded
+    image_passes x =
+        let stays = expressions_stay db relvar gift c.add x.right legal is_typed (x.checked (tree_checked db legal k asked)) x.beside.1 in
+        ap (refusal_unless_passed (by_constraint k.name))
+        (answers_pass x.ask x.asks x.left x.right k.tree x.is relvar (world_of db) (world_of next) (source_world next relvar c.add) base.relation c.out c.add
+        x.beside.0 change.is.headings.1 (base_value db relvar base change.is.named)
         (base_value next relvar (base_relvar base.name base.keys gift) named_after ∙ ap (λ r. Some (Valued (relation_value r))) gift_is)
-        named_there stays.0 stays.1 (ap (λ e. truth_value (value_of (world_of db) [] e)) (sym asks.is) ∙ holds))
-        ∙ ap (λ e. refusal_unless_passed (by_constraint k.name) (truth_value (value_of (world_of next) [] e))) (sym asks.is)
+        named_there stays.0 stays.1 holds)
 
     passes : AsksOfTuples relvar (reached_from (relvar ∷ []) db.virtuals) k.tree → IsAsAdded
     passes (inl each) = each_passes each
-    passes (inr inclusion) = inclusion_passes inclusion
+    passes (inr (inl inclusion)) = image_passes (of_inclusion db relvar (reached_from (relvar ∷ []) db.virtuals) k.tree inclusion)
+    passes (inr (inr none_kept)) = image_passes (of_none_kept db relvar (reached_from (relvar ∷ []) db.virtuals) k.tree none_kept)
 
   -- so constraints may be tested by what came in
   pub additions : AreAdditions (reached_from (relvar ∷ []) db.virtuals) next (relvar, c.add)

@@ -45,7 +45,7 @@ emptied f r = by_truths (gathered (truths_in f r.body))
     by_truths (Refused cs) = refl
 
 -- a list that has a first tuple is not empty
-not_empty : (t : Tuple) (ts : List Tuple) → nat_eq (length (t ∷ ts)) 0 ≡ false
+pub not_empty : (t : Tuple) (ts : List Tuple) → nat_eq (length (t ∷ ts)) 0 ≡ false
 not_empty t ts = by_test (nat_eq (length (t ∷ ts)) 0) refl
   where
     by_test : (b : Bool) → nat_eq (length (t ∷ ts)) 0 ≡ b → b ≡ false
