@@ -338,9 +338,6 @@ row_more sources bs cs rows i t made vs ws old new columns l here is cells tuple
     more ∙ (λ k. inv k ++ last k ∷ [])
     ∙ sym (ap (map (row_with sources bs)) (take_more rows i t l) ∙ map-append (row_with sources bs) (take i rows) (get_or rows i t ∷ []))
 
-pub All-more : {X : Type 0} (P : X → Type 0) (xs ys : List X) (x : X) → ys ≡ xs ++ x ∷ [] → All P xs → P x → All P ys
-All-more P xs ys x e a p = subst (All P) (sym e) (All-append P xs (x ∷ []) a (All-from_recursion P (x ∷ []) (p, tt)))
-
 -- ---- what is asked of columns, as the code hands it on
 
 pub all_distinct : (h g : Heading) (cs : List (List ℕ × Column)) (names : List (List ℕ)) → h ≡ g → names ≡ map (λ c. c.0) cs → IsHeading (pack h)

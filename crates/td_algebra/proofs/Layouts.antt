@@ -3,17 +3,16 @@ use Rattle.std.proofs.Common.{◌≡◌, ◌∙◌, ◌+◌, ◌<◌, ◌≤◌,
 use Rattle.std.specs.Prelude.{if◌then◌else◌}
 use Rattle.std.specs.List.{slice_get, zip}
 use Rattle.std.specs.List.Sorted.{IsPermutation, IsStrictlySortedBy}
-use Rattle.std.proofs.lemmas.List.{append-nil, at_drop_more, drop_all, get_or_default, length-map, map-append, take_more}
-use Rattle.std.proofs.lemmas.List.Sorted.{All-permutation, IsPermutation-map, IsPermutation-refl, IsPermutation-sym}
+use Rattle.std.proofs.lemmas.List.{append-nil, at_drop_more, drop_all, get_or_default, length-map, map-append, take_all, take_more}
+use Rattle.std.proofs.lemmas.List.Sorted.{All-permutation, IsPermutation-map, IsPermutation-sym}
 use Rattle.std.proofs.lemmas.Option.{get_or_from_slice_get, slice_get-get_or, slice_get_within}
 use Rattle.td_types.specs.Headings.{has_attribute}
 use Rattle.td_types.specs.Types.{Attribute, Heading}
 use Rattle.td_types.proofs.HeadingLaws.{name_cmp}
-use Rattle.td_value.specs.Values.{Tuple, Val, boolean, tuple_of}
-use Rattle.td_value.specs.code.Views.{values_of}
+use Rattle.td_value.specs.Values.{Val, boolean, tuple_of}
 use Rattle.td_value.proofs.Maps.{sorted_is_tuple_of}
-use Rattle.td_value.proofs.Zips.{zip_names, zip_values}
-use Rattle.td_algebra.specs.code.Layouts.{AreInRange, IsMade, Sources, source_unless, sources_outside, entries_taken}
+use Rattle.td_value.proofs.Zips.{zip_names}
+use Rattle.td_algebra.specs.code.Layouts.{AreInRange, Sources, entries_taken, placed_tuple, placed_values, source_names, source_unless, sources_outside}
 
 -- names with their places, taken apart and put together again
 pub zipped_sources : (ss : Sources) → zip (map (λ s. s.0) ss) (map (λ s. s.1) ss) ≡ ss
@@ -49,26 +48,59 @@ tuple_is_taken ns ps vs sources e up h p =
     (rw (taken_entries sources vs range, zip_entries ns ps vs) moved)
     (subst (IsStrictlySortedBy name_cmp) (sym names) up)
 
--- ---- a tuple that is made of some values
+-- ---- the values at a layout's places
 
-module _ (ns : List (List ℕ)) (ps : List ℕ) (t : Tuple) (e : length ns ≡ length ps) (up : IsStrictlySortedBy name_cmp ns) (made : IsMade (zip ns ps) t) where
-  own_places : t ≡ zip ns (map (value_in made.0) ps)
-  own_places = made.2 ∙ sym (tuple_is_taken ns ps made.0 (zip ns ps) e up made.1 (IsPermutation-refl (zip ns ps)))
+pub placed_zip : (ns : List (List ℕ)) (ps : List ℕ) (vs : List Val) → length ns ≡ length ps → placed_values (zip ns ps) vs ≡ map (value_in vs) ps
+placed_zip [] [] vs e = refl
+placed_zip [] (p ∷ ps) vs e = absurd (omega (arith, e))
+placed_zip (n ∷ ns) [] vs e = absurd (omega (arith, e))
+placed_zip (n ∷ ns) (p ∷ ps) vs e = ap (λ r. value_in vs p ∷ r) (placed_zip ns ps vs (omega (arith, e)))
 
-  zipped_values : (vs : List Val) → values_of (zip ns (map (value_in vs) ps)) ≡ map (value_in vs) ps
-  zipped_values vs = zip_values ns (map (value_in vs) ps) (e ∙ sym (length-map ps (value_in vs)))
+places_long : (ns : List (List ℕ)) (ps : List ℕ) → length ns ≡ length ps → length (zip ns ps) ≡ length ps
+places_long [] [] e = refl
+places_long [] (p ∷ ps) e = absurd (omega (arith, e))
+places_long (n ∷ ns) [] e = absurd (omega (arith, e))
+places_long (n ∷ ns) (p ∷ ps) e = ap suc (places_long ns ps (omega (arith, e)))
 
-  -- has as many values as there are places
-  pub made_length : length (values_of t) ≡ length ps
-  made_length = ap (λ u. length (values_of u)) own_places ∙ ap length (zipped_values made.0) ∙ length-map ps (value_in made.0)
+pub zip_long : (ns : List (List ℕ)) (ps : List ℕ) (layout : Sources) → length ns ≡ length ps → zip ns ps ≡ layout → length layout ≡ length ps
+zip_long ns ps layout e is = sym (ap length is) ∙ places_long ns ps e
 
-  -- is the one that is made of other values where its values are those at the places
-  module _ (vs : List Val) (sources : Sources) (range : AreInRange (zip ns ps) vs) (p : IsPermutation sources (zip ns ps)) where
-    pub made_of : values_of t ≡ map (value_in vs) ps → t ≡ tuple_of (entries_taken sources vs)
-    made_of same = own_places ∙ ap (zip ns) (sym (ap values_of own_places ∙ zipped_values made.0) ∙ same) ∙ tuple_is_taken ns ps vs sources e up range p
+pub names_zipped : (ns : List (List ℕ)) (ps : List ℕ) → length ns ≡ length ps → source_names (zip ns ps) ≡ ns
+names_zipped [] [] e = refl
+names_zipped [] (p ∷ ps) e = absurd (omega (arith, e))
+names_zipped (n ∷ ns) [] e = absurd (omega (arith, e))
+names_zipped (n ∷ ns) (p ∷ ps) e = ap (λ r. n ∷ r) (names_zipped ns ps (omega (arith, e)))
 
-    pub values_made : t ≡ tuple_of (entries_taken sources vs) → values_of t ≡ map (value_in vs) ps
-    values_made is = ap values_of (is ∙ sym (tuple_is_taken ns ps vs sources e up range p)) ∙ zipped_values vs
+-- one more of them
+pub placed_one : (vs : List Val) (ps : List ℕ) (i : ℕ) (found copy : Val) (old new : List Val) → i < length ps → slice_get vs (get_or ps i 0) ≡ Some found → copy ≡ found
+    → new ≡ old ++ copy ∷ [] → old ≡ map (value_in vs) (take i ps) → new ≡ map (value_in vs) (take (i + 1) ps)
+placed_one vs ps i found copy old new l at is push inv =
+    let got : copy ≡ value_in vs (get_or ps i 0) = is ∙ sym (get_or_from_slice_get vs (get_or ps i 0) found (boolean false) at) in
+    push ∙ (λ k. inv k ++ got k ∷ [])
+    ∙ sym (ap (map (value_in vs)) (take_more ps i 0 l) ∙ map-append (value_in vs) (take i ps) (get_or ps i 0 ∷ []))
+
+-- all of them
+pub placed_all : (ns : List (List ℕ)) (ps : List ℕ) (vs : List Val) (layout : Sources) (items : List ℕ) (i : ℕ) (row : List Val) → length ns ≡ length ps → zip ns ps ≡ layout
+    → items ≡ ps → length items ≤ i → row ≡ map (value_in vs) (take i items) → row ≡ placed_values layout vs
+placed_all ns ps vs layout items i row e is same past inv =
+    inv ∙ ap (map (value_in vs)) (take_all i items past ∙ same) ∙ sym (placed_zip ns ps vs e) ∙ ap (λ ss. placed_values ss vs) is
+
+placed_taken : (ss : Sources) (vs : List Val) → placed_values ss vs ≡ map (value_in vs) (map (λ s. s.1) ss)
+placed_taken [] vs = refl
+placed_taken (s ∷ ss) vs = ap (λ r. value_in vs s.1 ∷ r) (placed_taken ss vs)
+
+-- the names with them are the tuple of what is taken, in each order of the sources
+pub values_are_taken : (layout sources : Sources) (vs : List Val) → IsStrictlySortedBy name_cmp (source_names layout) → AreInRange layout vs → IsPermutation sources layout
+    → zip (source_names layout) (placed_values layout vs) ≡ placed_tuple sources vs
+values_are_taken layout sources vs up range p =
+    let ps = map (λ (s : List ℕ × ℕ). s.1) layout in
+    let same : length (source_names layout) ≡ length ps = length-map layout (λ s. s.0) ∙ sym (length-map layout (λ s. s.1)) in
+    let is = zipped_sources layout in
+    ap (zip (source_names layout)) (placed_taken layout vs)
+    ∙ tuple_is_taken (source_names layout) ps vs sources same up (subst (λ ss. AreInRange ss vs) (sym is) range) (subst (IsPermutation sources) (sym is) p)
+
+pub placed_long : (layout : Sources) (vs : List Val) → length (placed_values layout vs) ≡ length (source_names layout)
+placed_long layout vs = length-map layout (λ s. value_in vs s.1) ∙ sym (length-map layout (λ s. s.0))
 
 -- each place of a layout is in range
 pub place_below : (ns : List (List ℕ)) (ps : List ℕ) (vs : List Val) (i : ℕ) → length ns ≡ length ps → AreInRange (zip ns ps) vs → i < length ps → get_or ps i 0 < length vs

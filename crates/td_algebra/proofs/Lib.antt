@@ -8,6 +8,7 @@ pub mod JoinEqualities
 pub mod JoinMembers
 pub mod Joined
 pub mod Keys
+pub mod LaidOut
 pub mod Layouts
 pub mod Lists
 pub mod Lookups

@@ -1,5 +1,5 @@
 -- Two ascending lists of tuples side by side.
-use Rattle.std.proofs.Common.{◌≡◌, ◌∙◌, ap, sym, refl, subst, true≢false, append_assoc, Bool, true, false, ◌||◌, ℕ, zero, suc, ◌+◌, ◌<◌, List, [], ◌∷◌, ◌++◌, drop, filter, get_or, length}
+use Rattle.std.proofs.Common.{◌≡◌, ◌∙◌, ap, arith, sym, refl, subst, true≢false, append_assoc, Bool, true, false, ◌||◌, ℕ, zero, suc, ◌+◌, ◌<◌, List, [], ◌∷◌, ◌++◌, drop, filter, get_or, length, nat_eq}
 use Rattle.std.specs.Prelude.{◌&&◌, if◌then◌else◌}
 use Rattle.std.specs.declared.cmp.Ordering.{Ordering}
 use Rattle.std.specs.declared.cmp.Ordering.TheVariants.{Less, Equal, Greater}
@@ -7,13 +7,17 @@ use Rattle.std.specs.Ordering.{eq_by_cmp, is_eq, is_lt, ordering_reverse}
 use Rattle.std.specs.List.{AllByRecursion, list_all}
 use Rattle.std.specs.List.Sorted.{IsStrictlySortedBy}
 use Rattle.std.proofs.Math.Bool.{beq}
-use Rattle.std.proofs.lemmas.List.{at_drop_more}
+use Rattle.std.proofs.lemmas.Bool.{eqb-true}
+use Rattle.std.proofs.lemmas.List.{append-nil, at_drop_more}
 use Rattle.std.proofs.lemmas.List.Folds.{list_any-append}
 use Rattle.std.proofs.lemmas.List.Kept.{IsStrictlySortedBy-filter}
 use Rattle.td_value.specs.Sets.{has, set_of}
-use Rattle.td_value.specs.Values.{Tuple, IsAscendingBody, tuple_cmp}
+use Rattle.td_value.specs.Values.{Tuple, IsAscendingBody, Relation, relation_of, tuple_cmp}
 use Rattle.td_value.specs.ValueOrder.{tuple_Decides, tuple_order_same, tuple_order_total}
 use Rattle.td_value.proofs.SetLaws.{is_set_of, same_members}
+use Rattle.td_algebra.specs.Operators.{union}
+use Rattle.td_algebra.proofs.Ascents.{ascending_set}
+use Rattle.td_algebra.proofs.Lists.{all_kept}
 use Rattle.td_algebra.specs.code.Merges.{IsAbreast, without_first, begins_with, below, is_wanted, merged_tuples, not_below}
 
 -- ---- the order of two tuples
@@ -324,3 +328,19 @@ common_turned ts us a b =
     both true false = refl
     both false true = refl
     both false false = refl
+
+-- ---- an operand that has no tuples
+
+pub no_rows : (rows ts : List Tuple) (empty : Bool) → rows ≡ ts → empty ≡ nat_eq (length rows) 0 → empty ≡ true → ts ≡ []
+no_rows [] ts empty is e test = sym is
+no_rows (t ∷ rows) ts empty is e test = absurd (omega (arith, eqb-true (length (t ∷ rows)) 0 (sym e ∙ test)))
+
+pub all_wanted : (wanted : Bool) (us ts : List Tuple) → wanted ≡ false → us ≡ [] → filter (is_wanted wanted us) ts ≡ ts
+all_wanted wanted us ts w none = rw (w, none) (all_kept (is_wanted false []) ts (λ t. refl))
+
+-- the union with nothing
+pub union_nothing : (r s : Relation) → IsAscendingBody r.body → s.body ≡ [] → r ≡ union r s
+union_nothing r s up none = ascending_set r.heading r.body up ∙ ap (relation_of r.heading) (sym (append-nil r.body) ∙ ap (λ ts. r.body ++ ts) (sym none))
+
+pub nothing_union : (r s : Relation) → r.heading ≡ s.heading → IsAscendingBody s.body → r.body ≡ [] → s ≡ union r s
+nothing_union r s same up none = ascending_set s.heading s.body up ∙ (λ i. relation_of (sym same i) (sym none i ++ s.body))

@@ -1,9 +1,9 @@
 -- The tuples of pairs: what a layout takes of the values of both.
-use Rattle.std.proofs.Common.{◌≡◌, ◌∙◌, ap, sym, refl, arith, ℕ, ◌+◌, ◌<◌, Bool, true, false, List, [], ◌∷◌, ◌++◌, append-nil, append_assoc, drop, filter, length, map}
+use Rattle.std.proofs.Common.{◌≡◌, ◌∙◌, ap, sym, refl, arith, ℕ, ◌+◌, ◌<◌, Bool, true, false, List, [], ◌∷◌, ◌++◌, append-nil, append_assoc, drop, filter, get_or, length, map, take}
 use Rattle.std.specs.Prelude.{◌&&◌, not}
 use Rattle.std.specs.List.Sorted.{IsPermutation}
 use Rattle.std.specs.Ordering.{eq_by_cmp}
-use Rattle.std.proofs.lemmas.List.{length-append, map-append}
+use Rattle.std.proofs.lemmas.List.{flat_map_more, length-append, map-append, take_more}
 use Rattle.std.proofs.lemmas.List.Elements.{All-append}
 use Rattle.std.proofs.lemmas.List.Sorted.{All-permutation, IsPermutation-map, list_any-IsPermutation}
 use Rattle.std.proofs.Math.Seq.{drop-append_seam}
@@ -17,7 +17,7 @@ use Rattle.td_value.specs.code.Views.{values_of}
 use Rattle.td_value.proofs.SetLaws.{has-set_of, is_set_of, set_of-ascends}
 use Rattle.td_algebra.specs.code.Layouts.{AreInRange, Sources, source_names, sources_outside, entries_taken}
 use Rattle.td_algebra.specs.Operators.{united_tuple}
-use Rattle.td_algebra.specs.code.Pairs.{IsPaired, paired_tuple, pair_sources, pair_tuple}
+use Rattle.td_algebra.specs.code.Pairs.{IsPaired, paired_tuple, pairs_with, pair_sources, pair_tuple}
 use Rattle.td_algebra.proofs.Entries.{as_many, has_name-heading, heading_distinct, names_apart, names_of_heading}
 use Rattle.td_algebra.proofs.Lists.{all_kept}
 use Rattle.td_algebra.proofs.Members.{first_true}
@@ -118,3 +118,10 @@ pub put_first : {X Y : Type 0} (f : X → Y) (items rest : List X) (x : X) (y : 
 put_first f items rest x y old new all first is push so_far =
     ap (λ ys. ys ++ map f rest) push ∙ append_assoc old (y ∷ []) (map f rest)
     ∙ ap (λ z. old ++ z ∷ map f rest) is ∙ ap (λ xs. old ++ map f xs) (sym first) ∙ so_far
+
+-- the pairs of one more
+pub pairs_more : (partners : Tuple → List Tuple) (f : Tuple → Tuple → Tuple) (rows : List Tuple) (i : ℕ) (row : Tuple) (old new : List Tuple) → i < length rows → row ≡ get_or rows i row
+    → new ≡ old ++ map (f row) (partners row) → old ≡ pairs_with partners f (take i rows) → new ≡ pairs_with partners f (take (i + 1) rows)
+pairs_more partners f rows i row old new l is put so_far =
+    put ∙ ap (λ ts. ts ++ map (f row) (partners row)) so_far ∙ flat_map_more (λ t. map (f t) (partners t)) [] (take i rows) row
+    ∙ ap (pairs_with partners f) (sym (take_more rows i row l ∙ ap (λ t. take i rows ++ t ∷ []) (sym is)))

@@ -1,13 +1,13 @@
 //! EXTEND: the tuples with new attributes, whose values are given as columns.
 ghost use Rattle.std.specs.Prelude.{◌≡◌, ◌↔◌, ◌+◌, ◌<◌, ◌∷◌, ◌++◌, [], IfOk, IsTrue, List};
-ghost use Rattle.std.specs.Prelude.{OnOk, length, map, not};
+ghost use Rattle.std.specs.Prelude.{length, map, not};
 ghost use Rattle.std.specs.Cmp.Lexicographic.{slice_cmp};
 ghost use Rattle.std.specs.List.{All, list_all};
 ghost use Rattle.std.specs.List.Sorted.{IsPermutation};
 ghost use Rattle.std.specs.Ordering.{is_lt, nat_cmp};
 ghost use Rattle.td_algebra.specs.Columns.{AreAfter, AreColumns, AreColumnsOf, IsColumn};
 ghost use Rattle.td_algebra.specs.Columns.{column_attributes};
-ghost use Rattle.td_algebra.specs.Columns.{cells_at, columns_view, new_attribute};
+ghost use Rattle.td_algebra.specs.Columns.{columns_view, new_attribute};
 ghost use Rattle.td_algebra.specs.code.Layouts.{Sources, placed_tuple, sources_with};
 ghost use Rattle.td_algebra.specs.Operators.{Addition, extended_relation};
 ghost use Rattle.td_types.specs.Headings.{are_distinct, has_attribute, have_no_common};
@@ -18,6 +18,7 @@ ghost use Rattle.td_value.specs.Values.{IsAscendingBody, IsTuple, IsTupleOf, Tup
 ghost use Rattle.td_value.specs.Values.{relation_of};
 ghost use Rattle.td_value.specs.code.Views.{values_of};
 
+use crate::laid_out::LaidOut;
 use crate::layout::{Layout, put_names, put_sources};
 use std::alloc::{AllocError, Global};
 use td_tree::name::Name;
@@ -79,22 +80,6 @@ pub(crate) fn extended_layout(
     Layout::new(alloc, sources)
 }
 
-/// Puts the columns' values for a row in place of those that are there.
-fn put_cells(
-    cells: &mut Vec<Value>,
-    columns: &[(Name, Column)],
-    row: usize,
-) -> Result<(), AllocError>
-    requires { All (λ c. row < length c.1.values.items) columns.now }
-    ensures { OnOk result (cells.new.items ≡ cells_at row columns.now) }
-{
-    cells.clear();
-    for (_, column) in columns {
-        cells.push(column.values[row].try_clone()?)?;
-    }
-    Ok(())
-}
-
 /// The rows, each with its values of the columns.
 pub(crate) fn extended_rows(
     alloc: Global,
@@ -113,15 +98,11 @@ pub(crate) fn extended_rows(
         (values_of t ++ map (λ a. a.value t) additions)) rows.now) }
     ensures valid { IfOk result (λ made. All IsTuple made.items) }
 {
-    let mut cells = Vec::with_capacity(alloc, columns.len())?;
-    let mut extended = Vec::with_capacity(alloc, rows.len())?;
+    let mut extended = LaidOut::new(alloc, layout, rows.len())?;
     for row in 0..rows.len() {
-        put_cells(&mut cells, columns, row)?;
-        let tuple = layout.tuple(alloc, rows[row].values(), &cells)?;
-        tuple.reveal();
-        extended.push(tuple)?;
+        extended.put_extended(rows[row].values(), columns, row)?;
     }
-    Ok(extended)
+    extended.finish(alloc)
 }
 
 /// The relation of the rows, which ascend already where that is told.

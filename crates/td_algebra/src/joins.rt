@@ -12,6 +12,7 @@ ghost use Rattle.td_algebra.specs.Operators.{are_partners, composition, join, pr
 ghost use Rattle.td_algebra.specs.code.Pairs.{IsPaired, pair_sources, pair_tuple, pairs_with};
 ghost use Rattle.td_algebra.specs.code.Pairs.{partners_paired};
 
+use crate::laid_out::LaidOut;
 use crate::layout::{Layout, put_sources};
 use crate::lookup::{Lookup, common_places};
 use std::alloc::{AllocError, Global};
@@ -22,21 +23,20 @@ use td_value::tuple::Tuple;
 
 /// Puts the row's tuple with each of its partners after the others.
 fn put_pairs(
-    alloc: Global,
-    layout: &Layout,
     places: &[usize],
     row: &Tuple,
     lookup: &Lookup,
-    pairs: &mut Vec<Tuple>,
+    pairs: &mut LaidOut,
 ) -> Result<(), AllocError>
     requires within { AreWithin places.now (values_of row.now) }
-    requires paired { All (IsPaired layout.now row.now)
+    requires paired { All (IsPaired pairs.old.0 row.now)
         (partners_in lookup.now places.now row.now) }
-    ensures { OnOk result (pairs.new.items ≡ pairs.old.items
-        ++ map (pair_tuple layout.now row.now) (partners_in lookup.now places.now row.now)) }
+    ensures layout { OnOk result (pairs.new.0 ≡ pairs.old.0) }
+    ensures put { OnOk result (pairs.new.1 ≡ pairs.old.1
+        ++ map (pair_tuple pairs.old.0 row.now) (partners_in lookup.now places.now row.now)) }
 {
     for partner in lookup.partners(places, row) {
-        pairs.push(layout.tuple(alloc, row.values(), partner.values())?)?;
+        pairs.put(row.values(), partner.values())?;
     }
     Ok(())
 }
@@ -55,11 +55,11 @@ fn pairs_of(
     ensures { IfOk result (λ pairs. pairs.items
         ≡ pairs_with (partners_in lookup.now places.now) (pair_tuple layout.now) rows.now) }
 {
-    let mut pairs = Vec::with_capacity(alloc, rows.len())?;
+    let mut pairs = LaidOut::new(alloc, layout, rows.len())?;
     for row in rows {
-        put_pairs(alloc, layout, places, row, lookup, &mut pairs)?;
+        put_pairs(places, row, lookup, &mut pairs)?;
     }
-    Ok(pairs)
+    pairs.finish(alloc)
 }
 
 /// The tuples of the pairs of partners, found by the values of the other's tuples.

@@ -2,13 +2,16 @@
 ghost use Rattle.std.specs.Prelude.{◌≡◌, ◌↔◌, ◌+◌, ◌<◌, ◌^◌, ◌++◌, IfOk, IsTrue, OnOk, Some};
 ghost use Rattle.std.specs.Prelude.{length};
 ghost use Rattle.std.specs.Prelude.{map};
+ghost use Rattle.std.specs.Cmp.Lexicographic.{slice_cmp};
 ghost use Rattle.std.specs.List.{All, slice_get};
-ghost use Rattle.std.specs.List.Sorted.{IsPermutation};
-ghost use Rattle.td_algebra.specs.code.Layouts.{AreInRange, IsMade, Sources, numbered_sources};
-ghost use Rattle.td_algebra.specs.code.Layouts.{placed_tuple, source_unless, sources_outside};
+ghost use Rattle.std.specs.List.Sorted.{IsPermutation, IsStrictlySortedBy};
+ghost use Rattle.std.specs.Ordering.{nat_cmp};
+ghost use Rattle.td_algebra.specs.Columns.{cells_at};
+ghost use Rattle.td_algebra.specs.code.Layouts.{AreInRange, numbered_sources, placed_values};
+ghost use Rattle.td_algebra.specs.code.Layouts.{source_names, source_unless, sources_outside};
 ghost use Rattle.td_types.specs.Headings.{are_distinct, outside};
-ghost use Rattle.td_value.specs.code.Views.{values_of};
 
+use crate::extension::Column;
 use std::alloc::{AllocError, Global};
 use std::hash::{FoldHasher, Hash, Hasher};
 use std::marker::Model;
@@ -16,13 +19,12 @@ use td_tree::name::Name;
 use td_types::heading::Heading;
 use td_types::names::names_of;
 use td_value::names::NameList;
-use td_value::tuple::Tuple;
 use td_value::value::Value;
 
 /// The names of a result's tuples, ascending, each with the place of its value in the values of
 /// one tuple followed by those of another.
 #[derive(Drop)]
-pub(crate) struct Layout {
+pub struct Layout {
     names: NameList,
     places: Vec<usize>,
 }
@@ -62,9 +64,28 @@ fn value_at<'a>(place: usize, first: &'a [Value], second: &'a [Value]) -> &'a Va
     }
 }
 
+/// The value at the place in those of the first, followed by those of the columns for a tuple at a
+/// place.
+fn cell_at<'a>(
+    place: usize,
+    first: &'a [Value],
+    columns: &'a [(Name, Column)],
+    at: usize,
+) -> &'a Value
+    requires range { place < length (first.now ++ cells_at at columns.now) }
+    requires long { All (λ c. at < length c.1.values.items) columns.now }
+    ensures { slice_get (first.now ++ cells_at at columns.now) place ≡ Some result.now }
+{
+    if place < first.len() {
+        &first[place]
+    } else {
+        &columns[place - first.len()].1.values[at]
+    }
+}
+
 impl Layout {
     /// The layout of the names, each with its place.
-    pub(crate) fn new(alloc: Global, sources: Vec<(Name, usize)>) -> Result<Layout, AllocError>
+    pub fn new(alloc: Global, sources: Vec<(Name, usize)>) -> Result<Layout, AllocError>
         requires { IsTrue (are_distinct (map (λ s. s.0) sources.items)) }
         ensures { IfOk result (λ layout. IsPermutation sources.items layout) }
     {
@@ -75,24 +96,52 @@ impl Layout {
         Ok(Layout { names, places })
     }
 
-    /// The tuple whose values stand at the places in those of the first, followed by those of the
-    /// second.
-    pub(crate) fn tuple(
-        &self,
-        alloc: Global,
-        first: &[Value],
-        second: &[Value],
-    ) -> Result<Tuple, AllocError>
-        requires { AreInRange self.now (first.now ++ second.now) }
-        ensures { (sources : Sources) → IsPermutation sources self.now
-            → IfOk result (λ t. t ≡ placed_tuple sources (first.now ++ second.now)) }
+    /// The names, ascending.
+    pub(crate) fn names(&self) -> &NameList
+        ensures names { result.now ≡ source_names self.now }
+        ensures ascending { IsStrictlySortedBy (slice_cmp nat_cmp) (source_names self.now) }
     {
         self.names.reveal();
-        let mut values = Vec::with_capacity(alloc, self.places.len())?;
+        &self.names
+    }
+
+    /// Puts into the list, in place of what is there, the values at the places in those of the
+    /// first, followed by those of the second.
+    pub(crate) fn put_values(
+        &self,
+        first: &[Value],
+        second: &[Value],
+        row: &mut Vec<Value>,
+    ) -> Result<(), AllocError>
+        requires { AreInRange self.now (first.now ++ second.now) }
+        ensures { OnOk result (row.new.items ≡ placed_values self.now (first.now ++ second.now)) }
+    {
+        row.clear();
         for place in &self.places {
-            values.push(value_at(*place, first, second).try_clone()?)?;
+            row.push(value_at(*place, first, second).try_clone()?)?;
         }
-        Tuple::of(alloc, &self.names, values)
+        Ok(())
+    }
+
+    /// Puts into the list, in place of what is there, the values at the places in those of the
+    /// first, followed by those of the columns for a tuple at a place.
+    pub(crate) fn put_cells(
+        &self,
+        first: &[Value],
+        columns: &[(Name, Column)],
+        at: usize,
+        row: &mut Vec<Value>,
+    ) -> Result<(), AllocError>
+        requires range { AreInRange self.now (first.now ++ cells_at at columns.now) }
+        requires long { All (λ c. at < length c.1.values.items) columns.now }
+        ensures { OnOk result (row.new.items
+            ≡ placed_values self.now (first.now ++ cells_at at columns.now)) }
+    {
+        row.clear();
+        for place in &self.places {
+            row.push(cell_at(*place, first, columns, at).try_clone()?)?;
+        }
+        Ok(())
     }
 
     /// A number by which a tuple that is made of the values can be looked up.
@@ -106,35 +155,18 @@ impl Layout {
         state.finish()
     }
 
-    /// Whether the tuple, which is made of some values, is the one that is made of these.
-    pub(crate) fn makes(&self, tuple: &Tuple, values: &[Value]) -> bool
-        requires made { IsMade self.now tuple.now }
+    /// Whether a tuple's own values are those that a tuple made of the values has.
+    pub(crate) fn makes(&self, own: &[Value], values: &[Value]) -> bool
+        requires long { length own.now ≡ length self.now }
         requires range { AreInRange self.now values.now }
-        ensures { (sources : Sources) → IsPermutation sources self.now
-            → IsTrue result ↔ (tuple.now ≡ placed_tuple sources values.now) }
+        ensures { IsTrue result ↔ (own.now ≡ placed_values self.now values.now) }
     {
-        self.names.reveal();
-        let own = tuple.values();
         for index in 0..self.places.len() {
             if own[index] != *value_at(self.places[index], values, &[]) {
                 return false;
             }
         }
         true
-    }
-
-    /// The tuples whose values stand at the places in those of each of the tuples.
-    pub(crate) fn tuples(&self, alloc: Global, rows: &[Tuple]) -> Result<Vec<Tuple>, AllocError>
-        requires { All (λ t. AreInRange self.now (values_of t)) rows.now }
-        ensures { (sources : Sources) → IsPermutation sources self.now
-            → IfOk result (λ tuples. tuples.items
-            ≡ map (λ t. placed_tuple sources (values_of t)) rows.now) }
-    {
-        let mut tuples = Vec::with_capacity(alloc, rows.len())?;
-        for row in rows {
-            tuples.push(self.tuple(alloc, row.values(), &[])?)?;
-        }
-        Ok(tuples)
     }
 }
 
@@ -155,7 +187,7 @@ fn put_source(
 }
 
 /// Puts the names with their places, counted from the start, after the others.
-pub(crate) fn put_names(
+pub fn put_names(
     sources: &mut Vec<(Name, usize)>,
     names: &[Name],
     start: usize,
@@ -172,7 +204,7 @@ pub(crate) fn put_names(
 
 /// Puts the names of the heading's attributes with their places, counted from the start, after the
 /// others; but for those that the part has too.
-pub(crate) fn put_sources(
+pub fn put_sources(
     sources: &mut Vec<(Name, usize)>,
     heading: &Heading,
     start: usize,

@@ -3,8 +3,9 @@
 
 pub mod extension;
 pub mod joins;
+pub mod laid_out;
 pub mod laws;
-mod layout;
+pub mod layout;
 pub mod lookup;
 mod part;
 pub mod projection;

@@ -1,13 +1,14 @@
 //! Projection: the tuples with some of their attributes alone.
 ghost use Rattle.std.specs.Prelude.{◌≡◌, ◌∷◌, ◌++◌, [], IfOk, IsTrue, OnOk, map};
-ghost use Rattle.std.specs.List.{All, Contains};
+ghost use Rattle.std.specs.List.{All};
 ghost use Rattle.std.specs.List.Sorted.{IsPermutation};
-ghost use Rattle.td_algebra.specs.code.Layouts.{AreInRange, IsMade, Sources, placed_tuple};
+ghost use Rattle.td_algebra.specs.code.Layouts.{AreInRange, Sources, placed_tuple};
 ghost use Rattle.td_algebra.specs.Operators.{projected_relation};
 ghost use Rattle.td_types.specs.Headings.{has_projection};
 ghost use Rattle.td_value.specs.Values.{HaveSameMembers};
 ghost use Rattle.td_value.specs.code.Views.{values_of};
 
+use crate::laid_out::LaidOut;
 use crate::layout::{Layout, kept_layout};
 use std::alloc::{AllocError, Global};
 use std::collections::HashMap;
@@ -15,48 +16,27 @@ use td_tree::fault::without_refusal;
 use td_tree::name::Name;
 use td_value::relation::Rel;
 use td_value::tuple::Tuple;
-use td_value::value::Value;
-
-/// Whether the tuple at the place, if one is there, is made of the values.
-fn stands_at(layout: &Layout, values: &[Value], kept: &[Tuple], place: Option<&usize>) -> bool
-    requires made { All (IsMade layout.now) kept.now }
-    requires range { AreInRange layout.now values.now }
-    ensures { (sources : Sources) → IsPermutation sources layout.now
-        → IsTrue result → Contains kept.now (placed_tuple sources values.now) }
-{
-    let Some(place) = place else {
-        return false;
-    };
-    match kept.get(*place) {
-        Some(tuple) => layout.makes(tuple, values),
-        None => false,
-    }
-}
 
 /// Puts the tuple that is made of the row after the others, unless it is found among them: the
 /// places tell by a hash where to look.
 fn put_unseen(
-    alloc: Global,
-    layout: &Layout,
     places: &mut HashMap<u64, usize>,
-    kept: &mut Vec<Tuple>,
+    kept: &mut LaidOut,
     row: &Tuple,
 ) -> Result<(), AllocError>
-    requires made { All (IsMade layout.now) kept.old.items }
-    requires range { AreInRange layout.now (values_of row.now) }
-    ensures made { OnOk result (All (IsMade layout.now) kept.new.items) }
-    ensures members { (sources : Sources) → IsPermutation sources layout.now
-        → OnOk result (HaveSameMembers kept.new.items
-        (kept.old.items ++ placed_tuple sources (values_of row.now) ∷ [])) }
+    requires { AreInRange kept.old.0 (values_of row.now) }
+    ensures layout { OnOk result (kept.new.0 ≡ kept.old.0) }
+    ensures members { (sources : Sources) → IsPermutation sources kept.old.0
+        → OnOk result (HaveSameMembers kept.new.1
+        (kept.old.1 ++ placed_tuple sources (values_of row.now) ∷ [])) }
 {
     let values = row.values();
-    let hash = layout.hash_of(values);
-    if stands_at(layout, values, kept, places.get(&hash)) {
+    let hash = kept.layout().hash_of(values);
+    if kept.stands_at(values, places.get(&hash)) {
         return Ok(());
     }
     places.insert(hash, kept.len())?;
-    kept.push(layout.tuple(alloc, values, &[])?)?;
-    Ok(())
+    kept.put(values, &[])
 }
 
 /// The tuples that the layout makes of the rows. One that comes again is mostly left out.
@@ -67,11 +47,11 @@ fn distinct(alloc: Global, layout: &Layout, rows: &[Tuple]) -> Result<Vec<Tuple>
         (map (λ t. placed_tuple sources (values_of t)) rows.now)) }
 {
     let mut places = HashMap::new(alloc);
-    let mut kept = Vec::new(alloc);
+    let mut kept = LaidOut::new(alloc, layout, 0)?;
     for row in rows {
-        put_unseen(alloc, layout, &mut places, &mut kept, row)?;
+        put_unseen(&mut places, &mut kept, row)?;
     }
-    Ok(kept)
+    kept.finish(alloc)
 }
 
 /// The relation projected on the names. `Heading::has_projection` is the test of what is required.

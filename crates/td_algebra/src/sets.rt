@@ -1,7 +1,7 @@
 //! UNION, INTERSECT, MINUS, inclusion and disjointness, by a pass over the ascending tuples of both
 //! operands side by side, or by a search for each tuple of one that is far shorter. Both have one
 //! heading.
-ghost use Rattle.std.specs.Prelude.{◌≡◌, ◌++◌, IfOk, OnOk, filter};
+ghost use Rattle.std.specs.Prelude.{◌≡◌, ◌++◌, IfOk, IsTrue, OnOk, filter};
 ghost use Rattle.std.specs.List.{All, list_all};
 ghost use Rattle.td_algebra.specs.code.Merges.{begins_with, below, is_wanted, merged_tuples};
 ghost use Rattle.td_algebra.specs.code.Merges.{not_below};
@@ -165,12 +165,27 @@ pub(crate) fn with_rows(rel: &Rel, rows: Vec<Tuple>) -> Result<Rel, AllocError>
     Rel::of_ascending(rel.heading().try_clone()?, rows)
 }
 
+/// Whether it is soon found that all tuples of the first are wanted: it has none, or those that the
+/// second has not are wanted and that has none.
+fn keeps_all(rel: &Rel, other: &Rel, wanted: bool) -> bool
+    ensures { IsTrue result → filter (is_wanted wanted other.now.body) rel.now.body ≡ rel.now.body }
+{
+    if wanted {
+        rel.rows().is_empty()
+    } else {
+        rel.rows().is_empty() || other.rows().is_empty()
+    }
+}
+
 /// The tuples of the first that are in the second, or those that are not, as is wanted.
 fn wanted_part(alloc: Global, rel: &Rel, other: &Rel, wanted: bool) -> Result<Rel, AllocError>
     ensures { IfOk result (λ r.
         r ≡ restriction (is_wanted wanted other.now.body) rel.now) }
 {
     rel.reveal();
+    if keeps_all(rel, other, wanted) {
+        return rel.try_clone();
+    }
     let rows = chosen_rows(alloc, rel, other, wanted)?;
     with_rows(rel, rows)
 }
@@ -180,6 +195,13 @@ pub fn union(alloc: Global, rel: &Rel, other: &Rel) -> Result<Rel, AllocError>
     requires { rel.now.heading ≡ other.now.heading }
     ensures { IfOk result (λ r. r ≡ union rel.now other.now) }
 {
+    rel.reveal();
+    if other.rows().is_empty() {
+        return rel.try_clone();
+    }
+    if rel.rows().is_empty() {
+        return other.try_clone();
+    }
     let rows = merged_tuples(alloc, rel.rows(), other.rows())?;
     with_rows(rel, rows)
 }

@@ -56,7 +56,10 @@ impl Body for SortedBody {
     }
 
     fn insert(&mut self, tuple: Tuple) -> Result<bool, Tuple> {
-        self.relation.insert(tuple)
+        let Ok(small) = tuple.kept_small() else {
+            return Err(tuple);
+        };
+        self.relation.insert(small)
     }
 
     fn remove(&mut self, tuple: &Tuple) -> Result<bool, AllocError> {
@@ -64,7 +67,8 @@ impl Body for SortedBody {
     }
 
     fn change(&mut self, out: &Rel, add: &Rel) -> Result<(), AllocError> {
-        let next = changed_relation(*self.keys.allocator(), &self.relation, out, add)?;
+        let alloc = *self.keys.allocator();
+        let next = changed_relation(alloc, &self.relation, out, add)?.kept_small()?;
         self.kept.push(self.relation.try_clone()?)?;
         self.relation = next;
         Ok(())

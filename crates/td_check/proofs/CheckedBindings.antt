@@ -15,7 +15,6 @@ use Rattle.td_tree.specs.declared.expression.NamedExpr.{NamedExpr}
 use Rattle.td_tree.specs.declared.fault.Fault.{Fault}
 use Rattle.td_tree.specs.Outcomes.{Answers, Outcome, Valued, Refused, with_value}
 use Rattle.td_tree.specs.code.TreeViews.{named_view, tree_view}
-use Rattle.td_tree.specs.Trees.{Tree}
 use Rattle.td_types.specs.Headings.{has_attribute, has_name}
 use Rattle.td_types.specs.Types.{Heading, Type', same_name}
 use Rattle.td_types.proofs.OutcomeLaws.{valued_is, value_of_with}

@@ -1,5 +1,6 @@
 pub mod Added
 pub mod AgreementLaws
+pub mod AlikeLaws
 pub mod BothAnswers
 pub mod CannotFail
 pub mod CarriedLaws

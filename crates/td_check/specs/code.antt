@@ -1,3 +1,4 @@
+pub mod Alike
 pub mod CheckViews
 pub mod ItemViews
 pub mod LentScopes

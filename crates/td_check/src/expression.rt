@@ -13,12 +13,15 @@ ghost use Rattle.td_check.specs.code.PlaceViews.{is_bound, scope_at, within_all}
 ghost use Rattle.td_check.specs.Scopes.{entered_with};
 ghost use Rattle.td_check.specs.StaticTypes.{items_of, name_type, named_types, type_of, types_of};
 ghost use Rattle.td_check.specs.StaticTypes.{with_items};
+ghost use Rattle.td_check.specs.code.Alike.{AreEnough};
+ghost use Rattle.td_tree.specs.Trees.{Trees};
 ghost use Rattle.td_tree.specs.Outcomes.{Answers, Outcome, Valued, with_value};
 ghost use Rattle.td_tree.specs.code.TreeViews.{named_view, summaries_view, tree_view, trees_view};
 ghost use Rattle.td_types.specs.code.Pairs.{pair_view};
 ghost use Rattle.td_types.specs.Types.{IsType, Type'};
 ghost use Rattle.td_types.specs.code.Views.{pairs_view, type_view};
 
+use crate::alike::but_for_alike;
 use crate::mentioned::{Mentions, add_types_in};
 use crate::place::Place;
 use crate::rules::asked::{ask, relation_heading};
@@ -101,10 +104,10 @@ fn check(expr: &Expr, place: &Place<'_, '_, '_>, seen: &mut Mentions) -> Result<
             let operand = check(operand, place, seen)?;
             aggregate_type(*op, check_inside(value, &operand, place, seen)?)
         }
-        Expr::Relation(elements) => listed_type(&check_all(elements, place, seen)?),
+        Expr::Relation(elements) => listed_type(&check_elements(elements, place, seen)?),
         Expr::HeadedRelation(heading, elements) => {
             add_types_in(heading, &mut seen.types)?;
-            let elements = check_all(elements, place, seen);
+            let elements = check_elements(elements, place, seen);
             type_of_headed(both(resolve_heading(place.types(), heading), elements))
         }
         Expr::Tuple(parts) => tuple_type(check_named(parts, place, seen)?),
@@ -178,6 +181,21 @@ fn check_all(
         causes.collect(&mut types, check(expr, place, seen))?;
     }
     causes.finish(types)
+}
+
+/// The types of a relation's elements; where all are alike, of the first alone.
+#[cycle(check)]
+fn check_elements(
+    elements: &[Expr],
+    place: &Place<'_, '_, '_>,
+    seen: &mut Mentions,
+) -> Result<Vec<Ty>, Fault>
+    ensures { (few : Trees) × AreEnough (trees_view elements.now) few
+        × Answers (λ ts. map type_view ts.items) result (types_of (scope_at place.now) few)
+        × OnOk result (names_view seen.new ≡ with_names (names_view seen.old)
+        (relvars_in_all (scope_at place.now) few) (types_in_all few)) }
+{
+    check_all(but_for_alike(elements), place, seen)
 }
 
 /// The name with the type of its expression.

@@ -1,6 +1,7 @@
 //! The static checker.
 #![tactic(auto)]
 
+mod alike;
 pub mod cannot_fail;
 pub mod declared;
 pub mod expression;

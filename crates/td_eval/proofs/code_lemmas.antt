@@ -1,4 +1,7 @@
 pub mod AddedInTurn
+pub mod FittingTuples
+pub mod FixedElements
+pub mod HeadedElements
 pub mod KeepsAggregates
 pub mod KeepsClosure
 pub mod KeepsExtension

@@ -1,3 +1,4 @@
+pub mod FixedValues
 pub mod NewColumns
 pub mod Sights
 pub mod Totals

@@ -3,6 +3,7 @@
 
 pub mod env;
 pub mod extension;
+pub mod flat;
 pub mod in_tuples;
 pub mod known;
 pub mod laws;

@@ -22,6 +22,7 @@ ghost use Rattle.td_tree.specs.Trees.{choice};
 ghost use Rattle.td_types.specs.code.Views.{pairs_view, type_view};
 
 mod bound;
+mod elements;
 mod summaries;
 
 use crate::env::Env;
@@ -30,7 +31,7 @@ use crate::operators::aggregates::value_of_aggregate;
 use crate::operators::asked::{attribute, have_types, relation_in, truth};
 use crate::operators::between::value_of_operator;
 use crate::operators::comparisons::value_of_comparison;
-use crate::operators::elements::{listed_value, tuple_from, value_of_headed};
+use crate::operators::elements::tuple_from;
 use crate::operators::literals::literal_value;
 use crate::operators::operand::{component_value, extracted_value, measure_value, prefix_value};
 use crate::operators::postfix::{postfix_value, projected_by};
@@ -41,6 +42,7 @@ use crate::rows::{
 };
 use crate::sight::Sight;
 use crate::value::bound::bound;
+use crate::value::elements::{headed_elements, listed_elements};
 use crate::value::summaries::summary;
 use std::alloc::Global;
 use td_algebra::extension::Column;
@@ -51,7 +53,6 @@ use td_tree::fault::Fault;
 use td_tree::gathering::{Gathering, both};
 use td_tree::name::Name;
 use td_tree::operator::{Aggregate, Operator};
-use td_types::resolve::resolve_heading;
 use td_types::table::TypeEntry;
 use td_types::ty::Ty;
 use td_value::relation::Rel;
@@ -123,10 +124,9 @@ fn value_of<B: Body>(sight: &Sight<'_, B>, tuples: &[Tuple], expr: &Expr) -> Res
             component_value(sight.types, name, &value_of(sight, tuples, operand)?)
         }
         Expr::Measure(op, operand) => measure_value(*op, &value_of(sight, tuples, operand)?),
-        Expr::Relation(elements) => listed_value(alloc, values_of(sight, tuples, elements)?),
+        Expr::Relation(elements) => listed_elements(sight, tuples, elements),
         Expr::HeadedRelation(heading, elements) => {
-            let elements = values_of(sight, tuples, elements);
-            value_of_headed(alloc, resolve_heading(sight.types, heading), elements)
+            headed_elements(sight, tuples, heading, elements)
         }
         Expr::Tuple(parts) => tuple_from(alloc, entries(sight, tuples, parts)?),
         Expr::Extend(operand, parts) => {
@@ -187,7 +187,7 @@ fn choice<B: Body>(
 
 /// The values of expressions, in the order written.
 #[cycle(value)]
-fn values_of<B: Body>(
+pub(crate) fn values_of<B: Body>(
     sight: &Sight<'_, B>,
     tuples: &[Tuple],
     exprs: &[Expr],

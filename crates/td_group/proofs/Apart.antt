@@ -1,28 +1,15 @@
 -- Entries of a tuple with others of which none has a name of it.
-use Rattle.std.proofs.Common.{◌≡◌, ◌∙◌, ◌+◌, ◌<◌, ap, arith, sym, refl, subst, ℕ, zero, suc, Bool, true, false, List, [], ◌∷◌, ◌++◌, Some, None, get_or, length, take, true≢false}
+use Rattle.std.proofs.Common.{◌≡◌, ◌∙◌, ap, sym, refl, subst, ℕ, Bool, true, false, List, [], ◌∷◌, ◌++◌, Some, None, true≢false}
 use Rattle.std.specs.Prelude.{if◌then◌else◌, is_some, option_map}
 use Rattle.std.specs.Cmp.Lexicographic.{same_text}
-use Rattle.std.proofs.lemmas.List.{take_more}
 use Rattle.std.proofs.lemmas.List.Elements.{All-append, All-from_recursion, recursion_from_All}
 use Rattle.td_types.specs.Headings.{are_distinct, has_attribute, has_name, have_no_common, heading_union, with_attribute}
 use Rattle.td_types.specs.Types.{Heading, IsHeading, Type', pack, same_name, type_at}
 use Rattle.td_types.proofs.DistinctNames.{first_of, second_of}
 use Rattle.td_types.proofs.HeadingLaws.{type_at-union, type_at-with}
 use Rattle.td_value.specs.Values.{IsTupleOf, IsValue, Tuple, Val, tuple_names, tuple_of, type_of, value_at}
-use Rattle.td_value.specs.code.Views.{values_of}
 use Rattle.td_algebra.proofs.Entries.{HaveValues, IsTupleOf-made, distinct_append, has_name-heading, tuple_distinct, typed_values, value_at-append, values_of_fields}
 use Rattle.td_algebra.proofs.United.{IsHeading-union}
-
--- ---- the entries of a tuple one after another
-
-entry_at : (t : Tuple) (k : ℕ) (n : List ℕ) (v : Val) → k < length t → n ≡ get_or (tuple_names t) k n → v ≡ get_or (values_of t) k v → get_or t k (n, v) ≡ (n, v)
-entry_at [] k n v l p q = refl
-entry_at (e ∷ t) zero n v l p q = λ i. (sym p i, sym q i)
-entry_at (e ∷ t) (suc k) n v l p q = entry_at t k n v (omega (arith, l)) p q
-
-pub entry_more : (t : Tuple) (k : ℕ) (n : List ℕ) (v : Val) → k < length t → n ≡ get_or (tuple_names t) k n → v ≡ get_or (values_of t) k v
-    → take (k + 1) t ≡ take k t ++ (n, v) ∷ []
-entry_more t k n v l p q = take_more t k (n, v) l ∙ ap (λ e. take k t ++ e ∷ []) (entry_at t k n v l p q)
 
 -- ---- headings apart
 
@@ -40,6 +27,10 @@ apart (a ∷ g) h e n there = by_name (same_name a.0 n) refl (apart g h (second_
 turned : (b c : Bool) → (c ≡ true → b ≡ false) → b ≡ true → c ≡ false
 turned b true h e = absurd (true≢false (sym e ∙ h refl))
 turned b false h e = refl
+
+-- and a name of the first is none of the second
+pub none_common : (g h : Heading) → have_no_common g h ≡ true → (n : List ℕ) → has_attribute n g ≡ true → has_attribute n h ≡ false
+none_common g h e n = turned (has_attribute n g) (has_attribute n h) (apart g h e n)
 
 -- ---- entries put together
 
@@ -62,25 +53,14 @@ module _ (g k : Heading) (t x : Tuple) (p : IsTupleOf g t) (v : HaveValues x) (d
 pub joined_headed : (g h : Heading) (t x : Tuple) → IsTupleOf g t → IsTupleOf h x → have_no_common g h ≡ true → IsTupleOf (heading_union g h) (tuple_of (t ++ x))
 joined_headed g h t x p q e =
     together_headed g (heading_union g h) t x p (values_of_fields x q.0.0) (tuple_distinct x q.0) (IsHeading-union g h p.2 q.2)
-    (λ n there. has_name-heading h x q n ∙ turned (has_attribute n g) (has_attribute n h) (apart g h e n) there)
+    (λ n there. has_name-heading h x q n ∙ none_common g h e n there)
     (λ n. ap (λ o. if has_attribute n g then type_at n g else o) (typed_values h x q n) ∙ sym (type_at-union n g h))
 
-pub tuples_apart : (g h : Heading) (t x : Tuple) → IsTupleOf g t → IsTupleOf h x → have_no_common g h ≡ true → are_distinct (tuple_names (t ++ x)) ≡ true
-tuples_apart g h t x p q e =
-    distinct_append t x (tuple_distinct t p.0) (tuple_distinct x q.0)
-    (λ n there. has_name-heading h x q n ∙ turned (has_attribute n g) (has_attribute n h) (apart g h e n) (sym (has_name-heading g t p n) ∙ there))
-
 -- a name that is there is not one that is lacking
-other_name : (g : Heading) (name : List ℕ) → has_attribute name g ≡ false → (n : List ℕ) → has_attribute n g ≡ true → (b : Bool) → same_name name n ≡ b
+pub other_name : (g : Heading) (name : List ℕ) → has_attribute name g ≡ false → (n : List ℕ) → has_attribute n g ≡ true → (b : Bool) → same_name name n ≡ b
     → has_name n (name ∷ []) ≡ false
 other_name g name new n there true e = absurd (true≢false (sym there ∙ ap (λ m. has_attribute m g) (sym (same_text name n (sym e))) ∙ new))
 other_name g name new n there false e = rw e refl
-
-pub entry_apart : (g : Heading) (t : Tuple) (name : List ℕ) (v : Val) → IsTupleOf g t → has_attribute name g ≡ false
-    → are_distinct (tuple_names (t ++ (name, v) ∷ [])) ≡ true
-entry_apart g t name v p new =
-    distinct_append t ((name, v) ∷ []) (tuple_distinct t p.0) refl
-    (λ n there. other_name g name new n (sym (has_name-heading g t p n) ∙ there) (same_name name n) refl)
 
 -- a tuple with one more entry, of a name that its heading lacks
 pub entry_headed : (g : Heading) (t : Tuple) (name : List ℕ) (v : Val) (kind : Type') → IsTupleOf g t → has_attribute name g ≡ false → IsValue v → type_of v ≡ kind

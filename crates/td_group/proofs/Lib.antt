@@ -11,6 +11,7 @@ mod NestTests
 mod NestedMembers
 mod Rests
 mod RoundTrips
+mod RowLayouts
 mod Sums
 mod Tables
 mod Worked

@@ -3,21 +3,22 @@ use Rattle.std.proofs.Common.{◌≡◌, ◌∙◌, ap, sym, refl, subst, ℕ, B
 use Rattle.std.specs.Prelude.{IsTrue, if◌then◌else◌, is_some, not, option_map}
 use Rattle.std.specs.List.{All, Contains, flat_map}
 use Rattle.std.proofs.lemmas.List.Elements.{All-contains}
-use Rattle.td_types.specs.Headings.{has_attribute, has_projection, heading_union, projection, with_attribute, without_attribute}
-use Rattle.td_types.specs.Types.{Heading, IsHeading, Type', pack, same_name, unpack}
+use Rattle.td_types.specs.Headings.{are_distinct, has_attribute, has_projection, heading_union, projection, with_attribute, without_attribute}
+use Rattle.td_types.specs.Types.{Heading, IsHeading, Type', attribute_names, pack, same_name, unpack}
 use Rattle.td_types.specs.Types as types
+use Rattle.td_types.proofs.HeadingLaws.{IsHeading-filter, has_attribute-names}
 use Rattle.td_types.proofs.Meanings.{pack_unpack}
 use Rattle.td_value.specs.Values.{AreRows, IsTupleOf, IsValue, Relation, Tuple, Val, boolean, char, fields_type, integer, projected_tuple, relation, tuple, tuple_of, tuple_value, type_of, unpack_fields, unpack_rows, user, value_at}
 use Rattle.td_value.proofs.HeadingOf.{fields_type-heading}
 use Rattle.td_value.proofs.Packed.{pack_unpack_fields, pack_unpack_rows}
 use Rattle.td_value.proofs.Rows.{All-from_rows, IsTupleOf-from}
-use Rattle.td_algebra.proofs.Entries.{HaveValues, typed_values, values_of_fields}
+use Rattle.td_algebra.proofs.Entries.{HaveValues, heading_distinct, names_apart, typed_values, values_of_fields}
 use Rattle.td_algebra.proofs.Lists.{contains_cases, contains_flat_map, contains_map, contains_none}
 use Rattle.td_algebra.proofs.Members.{second_true}
 use Rattle.td_algebra.proofs.Projections.{IsTupleOf-projected}
 use Rattle.td_algebra.proofs.Relations.{All-from_members}
-use Rattle.td_group.specs.Nesting.{HaveNoCommonName, can_nest, can_unnest, heading_inside, inner_heading, is_relation_type, is_tuple_type, other_names, rest_heading, rest_names, tuples_inside, unnested_tuples, wrapped_tuple}
-use Rattle.td_group.proofs.Apart.{entry_apart, entry_headed, joined_headed, tuples_apart}
+use Rattle.td_group.specs.Nesting.{can_nest, can_unnest, heading_inside, inner_heading, is_relation_type, is_tuple_type, other_names, rest_heading, rest_names, tuples_inside, unnested_tuples, wrapped_tuple}
+use Rattle.td_group.proofs.Apart.{entry_headed, joined_headed, other_name}
 use Rattle.td_group.proofs.Rests.{rest_headed}
 
 -- ---- WRAP
@@ -49,14 +50,14 @@ wrapped_headed names name r all can w =
         (rest_headed (λ n. not (has_attribute n (projection names r.heading))) r.heading t has)
         (lacked (has_attribute name (rest_heading names r.heading)) (second_true (has_projection names r.heading) (not (has_attribute name (rest_heading names r.heading))) can)) (IsTupleOf-projected names r.heading t has).0 (part_typed names r.heading t has) w)
 
--- the rest of a tuple has no name of the new one
-pub wrapped_apart : (names : List (List ℕ)) (name : List ℕ) (r : Relation) → All (IsTupleOf r.heading) r.body → IsTrue (can_nest names name r.heading)
-    → All (λ t. HaveNoCommonName (projected_tuple (rest_names names r) t) ((name, tuple_value (projected_tuple names t)) ∷ [])) r.body
-wrapped_apart names name r all can =
-    All-from_members (λ t. HaveNoCommonName (projected_tuple (rest_names names r) t) ((name, tuple_value (projected_tuple names t)) ∷ [])) r.body (λ t c.
-    entry_apart (rest_heading names r.heading) (projected_tuple (rest_names names r) t) name (tuple_value (projected_tuple names t))
-    (rest_headed (λ n. not (has_attribute n (projection names r.heading))) r.heading t (All-contains (IsTupleOf r.heading) r.body t all c))
-    (lacked (has_attribute name (rest_heading names r.heading)) (second_true (has_projection names r.heading) (not (has_attribute name (rest_heading names r.heading))) can)))
+-- the names of the rest and the new one are distinct
+pub wrapped_distinct : (names : List (List ℕ)) (name : List ℕ) (h : Heading) → IsHeading (pack h) → IsTrue (can_nest names name h)
+    → are_distinct (attribute_names (rest_heading names h) ++ name ∷ []) ≡ true
+wrapped_distinct names name h p can =
+    let rest = rest_heading names h in
+    let new : has_attribute name rest ≡ false = lacked (has_attribute name rest) (second_true (has_projection names h) (not (has_attribute name rest)) can) in
+    names_apart (attribute_names rest) (name ∷ []) (heading_distinct rest (IsHeading-filter (λ a. not (has_attribute a.0 (projection names h))) h p)) refl
+    (λ n there. other_name rest name new n (has_attribute-names n rest ∙ there) (same_name name n) refl)
 
 -- ---- UNGROUP and UNWRAP
 
@@ -117,16 +118,6 @@ unnested_headed name r all can =
         subst (IsTupleOf (unnested_heading name r)) q.2
         (joined_headed (without_attribute name r.heading) (inner_heading name r.heading) (projected_tuple (other_names name r) u) q.0
         (rest_headed (λ n. not (same_name n name)) r.heading u has) (inside_headed name r.heading u q.0 has q.1) can)
-
--- the rest of a tuple has no name of a tuple inside
-pub unnested_apart : (name : List ℕ) (r : Relation) → All (IsTupleOf r.heading) r.body → IsTrue (can_unnest name r.heading)
-    → All (λ u. All (HaveNoCommonName (projected_tuple (other_names name r) u)) (tuples_inside (value_at name u))) r.body
-unnested_apart name r all can =
-    All-from_members (λ u. All (HaveNoCommonName (projected_tuple (other_names name r) u)) (tuples_inside (value_at name u))) r.body (λ u c.
-    let has : IsTupleOf r.heading u = All-contains (IsTupleOf r.heading) r.body u all c in
-    All-from_members (HaveNoCommonName (projected_tuple (other_names name r) u)) (tuples_inside (value_at name u)) (λ x d.
-    tuples_apart (without_attribute name r.heading) (inner_heading name r.heading) (projected_tuple (other_names name r) u) x
-    (rest_headed (λ n. not (same_name n name)) r.heading u has) (inside_headed name r.heading u x has d) can))
 
 -- an attribute of a relation type, or of a tuple type, is there
 pub there_of_relations : (t : Option Type') → is_relation_type t ≡ true → is_some t ≡ true

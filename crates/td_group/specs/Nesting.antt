@@ -1,13 +1,13 @@
 -- GROUP, UNGROUP, WRAP and UNWRAP, each by a comprehension over the tuples of its operand (Tutorial D's).
-use Rattle.std.specs.Prelude.{ℕ, Bool, true, false, not, ◌&&◌, List, [], ◌∷◌, ◌++◌, Option, Some, IsTrue, map}
+use Rattle.std.specs.Prelude.{ℕ, Bool, true, false, not, ◌&&◌, List, [], ◌∷◌, ◌++◌, Option, Some, map}
 use Rattle.std.specs.List.{flat_map}
 use Rattle.td_algebra.specs.Columns.{new_attribute}
 use Rattle.td_algebra.specs.Operators.{extended_relation, projected_relation, restriction}
-use Rattle.td_types.specs.Headings.{are_distinct, has_attribute, has_projection, have_no_common, heading_union, outside, projection, with_attribute, without_attribute}
+use Rattle.td_types.specs.Headings.{has_attribute, has_projection, have_no_common, heading_union, outside, projection, with_attribute, without_attribute}
 use Rattle.td_types.specs.Types.{Type', Heading, attribute_names, pack, type_at, unpack}
 use Rattle.td_types.specs.Types as types
 use Rattle.td_value.specs.Agreement.{agree_on}
-use Rattle.td_value.specs.Values.{Val, tuple, relation, Tuple, Relation, projected_tuple, relation_of, relation_value, tuple_names, tuple_of, tuple_value, unpack_fields, unpack_rows, value_at}
+use Rattle.td_value.specs.Values.{Val, tuple, relation, Tuple, Relation, projected_tuple, relation_of, relation_value, tuple_of, tuple_value, unpack_fields, unpack_rows, value_at}
 
 -- ---- some attributes, and the rest
 
@@ -22,10 +22,6 @@ rest_names names r = attribute_names (rest_heading names r.heading)
 -- whether attributes can be put into a new one: each is there, none comes twice, and the rest has none of the new name
 abbrev pub can_nest : List (List ℕ) → List ℕ → Heading → Bool
 can_nest names name h = has_projection names h && not (has_attribute name (rest_heading names h))
-
--- no name comes twice in two tuples, so that they can be put together
-abbrev pub HaveNoCommonName : Tuple → Tuple → Type 0
-HaveNoCommonName t u = IsTrue (are_distinct (tuple_names (t ++ u)))
 
 -- ---- GROUP and WRAP
 

@@ -11,6 +11,7 @@ ghost use Rattle.td_group.specs.code.Successors.{ends_of};
 ghost use Rattle.td_group.specs.code.Successors.{pair_of, start_of, starts_in, successors_at};
 ghost use Rattle.td_types.specs.Headings.{is_closable};
 ghost use Rattle.td_value.specs.Values.{Tuple, Val, value_cmp};
+ghost use Rattle.td_value.specs.code.Blocks.{making};
 
 use crate::groups::attribute_names;
 use std::alloc::{AllocError, Global};
@@ -18,6 +19,7 @@ use std::collections::{HashMap, HashSet};
 use td_value::names::NameList;
 use td_value::relation::Rel;
 use td_value::tuple::Tuple;
+use td_value::tuples::Tuples;
 use td_value::value::Value;
 
 /// The values from which and to which a tuple of two attributes leads.
@@ -38,7 +40,8 @@ fn put_successor<'a>(
     to: &'a Value,
 ) -> Result<(), AllocError>
     ensures { (v : Val) → OnOk result (successors_at table.new v
-        ≡ successors_at table.old v ++ (if eq_by_cmp value_cmp v from.now then to.now ∷ [] else [])) }
+        ≡ successors_at table.old v
+        ++ (if eq_by_cmp value_cmp v from.now then to.now ∷ [] else [])) }
 {
     let mut successors = table.remove(from).unwrap_or(Vec::new(alloc));
     successors.push(to)?;
@@ -148,31 +151,22 @@ fn values_reached<'a>(
     Ok(found)
 }
 
-/// The tuple of the two names that leads from the one value to the other.
-fn pair(alloc: Global, names: &NameList, from: &Value, to: &Value) -> Result<Tuple, AllocError>
-    requires { length names.now ≡ 2 }
-    ensures { IfOk result (λ t. t ≡ pair_of names.now from.now to.now) }
-{
-    let mut values = Vec::with_capacity(alloc, 2)?;
-    values.push(from.try_clone()?)?;
-    values.push(to.try_clone()?)?;
-    Tuple::of(alloc, names, values)
-}
-
-/// Puts the tuples that lead from the value to each of the others after those that are there.
+/// Puts the tuples that lead from the value to each of the others after those that are made.
 fn put_pairs(
     alloc: Global,
-    names: &NameList,
     from: &Value,
     values: &[&Value],
-    pairs: &mut Vec<Tuple>,
+    made: &mut Tuples,
 ) -> Result<(), AllocError>
-    requires { length names.now ≡ 2 }
-    ensures { OnOk result (pairs.new.items
-        ≡ pairs.old.items ++ map (pair_of names.now from.now) (map (λ v. v.now) values.now)) }
+    requires { length made.old.names ≡ 2 }
+    ensures { OnOk result (made.new ≡ making made.old.names (made.old.tuples
+        ++ map (pair_of made.old.names from.now) (map (λ v. v.now) values.now))) }
 {
+    let mut row = Vec::with_capacity(alloc, 2)?;
     for value in values {
-        pairs.push(pair(alloc, names, from, value)?)?;
+        row.push(from.try_clone()?)?;
+        row.push(value.try_clone()?)?;
+        made.push(&mut row)?;
     }
     Ok(())
 }
@@ -188,17 +182,16 @@ fn pairs_from(
     ensures { IfOk result (λ pairs. ArePairsFrom (successors_at table.now) names.now
         (map (λ v. v.now) starts.now) pairs.items) }
 {
-    let mut pairs = Vec::new(alloc);
+    let mut made = Tuples::new(alloc, names, starts.len())?;
     for start in starts {
         put_pairs(
             alloc,
-            names,
             start,
             &values_reached(alloc, table, start)?,
-            &mut pairs,
+            &mut made,
         )?;
     }
-    Ok(pairs)
+    made.finish(alloc)
 }
 
 /// Puts the value from which the row leads after the others, unless it is the last.

@@ -6,7 +6,7 @@ pub mod closure;
 pub mod grouping;
 pub mod groups;
 pub mod laws;
+mod layouts;
 pub mod nesting;
-mod tuples;
 pub mod unnesting;
 pub mod wrapping;

@@ -1,16 +1,18 @@
 //! UNGROUP and UNWRAP: the tuples that an attribute's value has or is, each with the rest.
 ghost use Rattle.std.specs.Prelude.{◌≡◌, ◌++◌, IfOk, IsTrue, OnOk, Some, map};
-ghost use Rattle.std.specs.List.{All, flat_map};
+ghost use Rattle.std.specs.List.{All};
+ghost use Rattle.td_algebra.specs.code.Pairs.{IsPaired, pair_tuple, pairs_with};
 ghost use Rattle.td_group.specs.Nesting.{can_unnest, inner_heading, is_relation_type};
-ghost use Rattle.td_group.specs.Nesting.{HaveNoCommonName, is_tuple_type, tuples_inside};
-ghost use Rattle.td_group.specs.Nesting.{unnested_relation};
+ghost use Rattle.td_group.specs.Nesting.{is_tuple_type, tuples_inside, unnested_relation};
 ghost use Rattle.td_types.specs.Headings.{has_attribute};
 ghost use Rattle.td_types.specs.Types.{type_at};
-ghost use Rattle.td_value.specs.Values.{projected_tuple, tuple_of, value_at};
+ghost use Rattle.td_value.specs.Values.{value_at};
 
 use crate::groups::attribute_names;
-use crate::tuples::joined_tuple;
+use crate::layouts::row_layout;
 use std::alloc::{AllocError, Global};
+use td_algebra::laid_out::LaidOut;
+use td_algebra::layout::Layout;
 use td_tree::fault::without_refusal;
 use td_tree::name::Name;
 use td_types::heading::Heading;
@@ -30,80 +32,66 @@ fn inner_heading(alloc: Global, heading: &Heading, name: &Name) -> Result<Headin
     }
 }
 
-/// Puts the rest with each of the tuples after the others.
-fn put_joined(
-    alloc: Global,
-    rest: &Tuple,
-    tuples: &[Tuple],
-    rows: &mut Vec<Tuple>,
-) -> Result<(), AllocError>
-    requires { All (HaveNoCommonName rest.now) tuples.now }
-    ensures { OnOk result (rows.new.items
-        ≡ rows.old.items ++ map (λ x. tuple_of (rest.now ++ x)) tuples.now) }
+/// Puts the tuple that the layout makes of the row with each of the tuples after the others.
+fn put_with_each(row: &Tuple, tuples: &[Tuple], laid: &mut LaidOut) -> Result<(), AllocError>
+    requires { All (IsPaired laid.old.0 row.now) tuples.now }
+    ensures layout { OnOk result (laid.new.0 ≡ laid.old.0) }
+    ensures put { OnOk result (laid.new.1
+        ≡ laid.old.1 ++ map (pair_tuple laid.old.0 row.now) tuples.now) }
 {
     for tuple in tuples {
-        rows.push(joined_tuple(alloc, rest, tuple)?)?;
+        laid.put(row.values(), tuple.values())?;
     }
     Ok(())
 }
 
-/// Puts the rest with each of the tuples that the value has or is after the others.
-fn put_inside(
-    alloc: Global,
-    rest: &Tuple,
-    value: &Value,
-    rows: &mut Vec<Tuple>,
-) -> Result<(), AllocError>
-    requires { All (HaveNoCommonName rest.now) (tuples_inside (Some value.now)) }
-    ensures { OnOk result (rows.new.items ≡ rows.old.items
-        ++ map (λ x. tuple_of (rest.now ++ x)) (tuples_inside (Some value.now))) }
+/// Puts the tuples that the layout makes of the row with each of those that the value has or is
+/// after the others.
+fn put_inside(row: &Tuple, value: &Value, laid: &mut LaidOut) -> Result<(), AllocError>
+    requires { All (IsPaired laid.old.0 row.now) (tuples_inside (Some value.now)) }
+    ensures layout { OnOk result (laid.new.0 ≡ laid.old.0) }
+    ensures put { OnOk result (laid.new.1 ≡ laid.old.1
+        ++ map (pair_tuple laid.old.0 row.now) (tuples_inside (Some value.now))) }
 {
     match &value.node {
-        Node::Tup(tuple) => Ok(rows.push(joined_tuple(alloc, rest, tuple)?)?),
-        Node::Rel(inner) => put_joined(alloc, rest, inner.rows(), rows),
+        Node::Tup(tuple) => laid.put(row.values(), tuple.values()),
+        Node::Rel(inner) => put_with_each(row, inner.rows(), laid),
         _ => Ok(()),
     }
 }
 
-/// Puts the row on the rest, with each of the tuples that its attribute's value has or is, after
-/// the others.
-fn put_unnested(
-    alloc: Global,
-    row: &Tuple,
-    rest: &[Name],
-    name: &Name,
-    rows: &mut Vec<Tuple>,
-) -> Result<(), AllocError>
-    requires { All (HaveNoCommonName (projected_tuple rest.now row.now))
-        (tuples_inside (value_at name.now row.now)) }
-    ensures { OnOk result (rows.new.items ≡ rows.old.items
-        ++ map (λ x. tuple_of (projected_tuple rest.now row.now ++ x))
-        (tuples_inside (value_at name.now row.now))) }
+/// Puts the tuples that the layout makes of the row with each of those that its attribute's value
+/// has or is after the others.
+fn put_unnested(row: &Tuple, name: &Name, laid: &mut LaidOut) -> Result<(), AllocError>
+    requires { All (IsPaired laid.old.0 row.now) (tuples_inside (value_at name.now row.now)) }
+    ensures layout { OnOk result (laid.new.0 ≡ laid.old.0) }
+    ensures put { OnOk result (laid.new.1 ≡ laid.old.1
+        ++ map (pair_tuple laid.old.0 row.now) (tuples_inside (value_at name.now row.now))) }
 {
     match row.get(name) {
-        Some(value) => put_inside(alloc, &row.project(rest)?, value, rows),
+        Some(value) => put_inside(row, value, laid),
         None => Ok(()),
     }
 }
 
-/// Each row on the rest with each of the tuples that its attribute's value has or is.
+/// The tuples that the layout makes of each row with each of those that its attribute's value has
+/// or is.
 fn unnested_rows(
     alloc: Global,
+    layout: &Layout,
     rows: &[Tuple],
-    rest: &[Name],
     name: &Name,
 ) -> Result<Vec<Tuple>, AllocError>
-    requires { All (λ u. All (HaveNoCommonName (projected_tuple rest.now u))
-        (tuples_inside (value_at name.now u))) rows.now }
-    ensures { IfOk result (λ unnested. unnested.items ≡ flat_map (λ u.
-        map (λ x. tuple_of (projected_tuple rest.now u ++ x))
-        (tuples_inside (value_at name.now u))) rows.now) }
+    requires { All (λ u. All (IsPaired layout.now u) (tuples_inside (value_at name.now u)))
+        rows.now }
+    ensures { IfOk result (λ unnested. unnested.items ≡ pairs_with
+        (λ u. tuples_inside (value_at name.now u)) (pair_tuple layout.now) rows.now) }
 {
-    let mut unnested = Vec::new(alloc);
+    let mut laid = LaidOut::new(alloc, layout, rows.len())?;
     for row in rows {
-        put_unnested(alloc, row, rest, name, &mut unnested)?;
+        put_unnested(row, name, &mut laid)?;
     }
-    Ok(unnested)
+    laid.finish(alloc)
 }
 
 /// The relation with what is inside the attribute in its place.
@@ -115,8 +103,11 @@ fn unnest(alloc: Global, rel: &Rel, name: &Name) -> Result<Rel, AllocError>
     let heading = rel.heading();
     heading.reveal();
     let inner = inner_heading(alloc, heading, name)?;
+    inner.reveal();
     let rest = without_refusal(heading.without(name))?;
-    let rows = unnested_rows(alloc, rel.rows(), &attribute_names(&rest)?, name)?;
+    let part = heading.lacking(&rest)?;
+    let layout = row_layout(alloc, &part, heading, &attribute_names(&inner)?)?;
+    let rows = unnested_rows(alloc, &layout, rel.rows(), name)?;
     let heading = without_refusal(rest.union(&inner))?;
     Rel::new(heading, rows)
 }

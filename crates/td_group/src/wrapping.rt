@@ -1,12 +1,16 @@
 //! WRAP: each tuple with the tuple of some of its attributes in their place.
-ghost use Rattle.std.specs.Prelude.{◌≡◌, ◌∷◌, ◌++◌, [], IfOk, IsTrue, map};
+ghost use Rattle.std.specs.Prelude.{◌≡◌, ◌∷◌, ◌++◌, [], IfOk, IsTrue, length, map};
 ghost use Rattle.std.specs.List.{All};
-ghost use Rattle.td_group.specs.Nesting.{HaveNoCommonName, can_nest, wrapped_relation};
-ghost use Rattle.td_value.specs.Values.{projected_tuple, tuple_of, tuple_value};
+ghost use Rattle.std.specs.List.Sorted.{IsPermutation};
+ghost use Rattle.td_algebra.specs.code.Layouts.{AreInRange, Sources, placed_tuple};
+ghost use Rattle.td_group.specs.Nesting.{can_nest, wrapped_relation};
+ghost use Rattle.td_value.specs.Values.{Tuple, Val, tuple_value};
+ghost use Rattle.td_value.specs.code.Views.{values_of};
 
-use crate::groups::attribute_names;
-use crate::tuples::joined_tuple;
+use crate::layouts::row_layout;
 use std::alloc::{AllocError, Global};
+use td_algebra::laid_out::LaidOut;
+use td_algebra::layout::Layout;
 use td_tree::fault::without_refusal;
 use td_tree::name::Name;
 use td_types::ty::Ty;
@@ -14,35 +18,41 @@ use td_value::relation::Rel;
 use td_value::tuple::Tuple;
 use td_value::value::Value;
 
-/// The tuple of the name alone, with the tuple as its value.
-fn tuple_of_one(alloc: Global, name: &Name, tuple: Tuple) -> Result<Tuple, AllocError>
-    ensures { IfOk result (λ t. t ≡ (name.now, tuple_value tuple) ∷ []) }
+/// The tuples that the layout makes of the rows.
+fn parts_of(alloc: Global, layout: &Layout, rows: &[Tuple]) -> Result<Vec<Tuple>, AllocError>
+    requires { All (λ t. AreInRange layout.now (values_of t)) rows.now }
+    ensures { (sources : Sources) → IsPermutation sources layout.now
+        → IfOk result (λ parts. parts.items
+        ≡ map (λ t. placed_tuple sources (values_of t)) rows.now) }
 {
-    let value = Value::tuple(alloc, tuple)?;
-    let mut entries = Vec::with_capacity(alloc, 1)?;
-    entries.push((name.try_clone()?, value))?;
-    without_refusal(Tuple::new(alloc, entries))
+    let mut parts = LaidOut::new(alloc, layout, rows.len())?;
+    for row in rows {
+        parts.put(row.values(), &[])?;
+    }
+    parts.finish(alloc)
 }
 
-/// The rows on the rest, each with the tuple of its named part.
+/// The tuples that the layout makes of the rows, each with its part as one value more.
 fn wrapped_rows(
     alloc: Global,
+    layout: &Layout,
     rows: &[Tuple],
-    rest: &[Name],
-    names: &[Name],
-    name: &Name,
+    parts: &[Tuple],
 ) -> Result<Vec<Tuple>, AllocError>
-    requires { All (λ t. HaveNoCommonName (projected_tuple rest.now t)
-        ((name.now, tuple_value (projected_tuple names.now t)) ∷ [])) rows.now }
-    ensures { IfOk result (λ wrapped. wrapped.items ≡ map (λ t. tuple_of (projected_tuple rest.now t
-        ++ (name.now, tuple_value (projected_tuple names.now t)) ∷ [])) rows.now) }
+    requires long { length parts.now ≡ length rows.now }
+    requires range { All (λ t. (v : Val) → AreInRange layout.now (values_of t ++ v ∷ []))
+        rows.now }
+    ensures { (sources : Sources) (part : Tuple → Tuple) → IsPermutation sources layout.now
+        → parts.now ≡ map part rows.now
+        → IfOk result (λ wrapped. wrapped.items
+        ≡ map (λ t. placed_tuple sources (values_of t ++ tuple_value (part t) ∷ [])) rows.now) }
 {
-    let mut wrapped = Vec::with_capacity(alloc, rows.len())?;
-    for row in rows {
-        let part = tuple_of_one(alloc, name, row.project(names)?)?;
-        wrapped.push(joined_tuple(alloc, &row.project(rest)?, &part)?)?;
+    let mut wrapped = LaidOut::new(alloc, layout, rows.len())?;
+    for index in 0..rows.len() {
+        let part = Value::tuple(alloc, parts[index].try_clone()?)?;
+        wrapped.put(rows[index].values(), &[part])?;
     }
-    Ok(wrapped)
+    wrapped.finish(alloc)
 }
 
 /// The relation with the attributes of the names put into one tuple-valued attribute. `can_nest` is
@@ -55,7 +65,10 @@ pub fn wrap(alloc: Global, rel: &Rel, names: &[Name], name: Name) -> Result<Rel,
     heading.reveal();
     let part = without_refusal(heading.project(names))?;
     let rest = heading.lacking(&part)?;
-    let rows = wrapped_rows(alloc, rel.rows(), &attribute_names(&rest)?, names, &name)?;
+    let part_layout = row_layout(alloc, &rest, heading, &[])?;
+    let parts = parts_of(alloc, &part_layout, rel.rows())?;
+    let layout = row_layout(alloc, &part, heading, &[name.try_clone()?])?;
+    let rows = wrapped_rows(alloc, &layout, rel.rows(), &parts)?;
     let heading = without_refusal(rest.with(name, Ty::Tup(part)))?;
     heading.reveal();
     Rel::new(heading, rows)

@@ -12,6 +12,8 @@ pub mod BeginsNames
 pub mod BeginsPlain
 pub mod Decimals
 pub mod Highest
+pub mod LoneLiterals
+pub mod LoneTuples
 pub mod LoopTurns
 pub mod OneTree
 pub mod Parsed

@@ -1,5 +1,5 @@
 -- Where an expression ends: what goes on with none of a level's operators.
-use Rattle.std.proofs.Common.{◌≡◌, false, List, [], ◌∷◌, ◌++◌, Some, None, refl}
+use Rattle.std.proofs.Common.{◌≡◌, true, false, List, [], ◌∷◌, ◌++◌, Some, None, refl}
 use Rattle.td_tree.specs.declared.keyword.Keyword.TheVariants as k
 use Rattle.td_tree.specs.declared.operator.Comparison.{Comparison}
 use Rattle.td_tree.specs.declared.operator.Comparison.TheVariants as comparisons
@@ -8,6 +8,7 @@ use Rattle.td_tree.specs.declared.operator.Level.TheVariants as levels
 use Rattle.td_parse.specs.declared.operators.Link.{Link}
 use Rattle.td_tree.specs.declared.operator.Operator.TheVariants as operators
 use Rattle.td_parse.specs.declared.operators.Link.TheVariants as links
+use Rattle.td_tree.specs.declared.token.Sign.{Sign}
 use Rattle.td_tree.specs.declared.token.Sign.TheVariants as signs
 use Rattle.td_tree.specs.Grammar.{tighter, comparison_word, PostfixSpelling, projection, renamings, renamings_in_braces, grouping, wrapping, open_grouping, open_wrapping, ungrouping, unwrapping, AttributeListSpelling, only_names, all_but_names, loosest}
 use Rattle.td_tree.specs.Grammar as grammar
@@ -15,6 +16,7 @@ use Rattle.td_tree.specs.Lexemes.{Lexeme, keyword, sign}
 use Rattle.td_parse.specs.ReadingOperators.{link_level, link_words, any_link, link_at, comparison_at, postfix_at, call_at}
 use Rattle.td_parse.specs.ReadingSteps.{expect}
 use Rattle.td_tree.specs.Trees.{Attributes, Postfix}
+use Rattle.td_parse.specs.code.Lone.{ends_expression}
 use Rattle.td_parse.proofs.BeginsPlain.{from}
 
 -- the lexemes go on with no operator of the level or of a tighter one
@@ -123,17 +125,22 @@ pub nothing_stops : (level : Level) → Stops level []
 unfolding comparison_at postfix_at call_at expect
 nothing_stops level = stops_all level [] (record { operator = refl; comparison = refl; postfix = refl; call = refl; extraction = refl })
 
-pub close_stops : (s : List Lexeme) → Ends (sign signs.CloseParenthesis ∷ s)
+-- a sign that ends an expression among others ends every level
+pub sign_stops : (level : Level) (s : Sign) (ts : List Lexeme) → ends_expression s ≡ true → Stops level (sign s ∷ ts)
 unfolding comparison_at postfix_at call_at expect
-close_stops s = stops_all loosest (sign signs.CloseParenthesis ∷ s) (record { operator = refl; comparison = refl; postfix = refl; call = refl; extraction = refl })
+sign_stops level signs.Comma ts e = stops_all level (sign signs.Comma ∷ ts) (record { operator = refl; comparison = refl; postfix = refl; call = refl; extraction = refl })
+sign_stops level signs.CloseParenthesis ts e = stops_all level (sign signs.CloseParenthesis ∷ ts) (record { operator = refl; comparison = refl; postfix = refl; call = refl; extraction = refl })
+sign_stops level signs.CloseBrace ts e = stops_all level (sign signs.CloseBrace ∷ ts) (record { operator = refl; comparison = refl; postfix = refl; call = refl; extraction = refl })
+sign_stops level _ ts e = absurd cc
+
+pub close_stops : (s : List Lexeme) → Ends (sign signs.CloseParenthesis ∷ s)
+close_stops s = sign_stops loosest signs.CloseParenthesis s refl
 
 pub close_brace_stops : (s : List Lexeme) → Ends (sign signs.CloseBrace ∷ s)
-unfolding comparison_at postfix_at call_at expect
-close_brace_stops s = stops_all loosest (sign signs.CloseBrace ∷ s) (record { operator = refl; comparison = refl; postfix = refl; call = refl; extraction = refl })
+close_brace_stops s = sign_stops loosest signs.CloseBrace s refl
 
 pub comma_stops : (s : List Lexeme) → Ends (sign signs.Comma ∷ s)
-unfolding comparison_at postfix_at call_at expect
-comma_stops s = stops_all loosest (sign signs.Comma ∷ s) (record { operator = refl; comparison = refl; postfix = refl; call = refl; extraction = refl })
+comma_stops s = sign_stops loosest signs.Comma s refl
 
 pub semicolon_stops : (s : List Lexeme) → Ends (sign signs.Semicolon ∷ s)
 unfolding comparison_at postfix_at call_at expect

@@ -90,7 +90,7 @@ at_nothing : (least most : ℕ) (ts : List Lexeme) → any_link ts ≡ None → 
 unfolding infix_at
 at_nothing least most ts none e = rw (infix_is ts, none, e) refl
 
-no_infix : (least most : ℕ) (ts : List Lexeme) → any_infix ts ≡ None → infix_at least most ts ≡ None
+pub no_infix : (least most : ℕ) (ts : List Lexeme) → any_infix ts ≡ None → infix_at least most ts ≡ None
 unfolding infix_at
 no_infix least most ts e = rw e refl
 
@@ -258,7 +258,7 @@ module _ (inner : Level → List Lexeme → Read) (depth : ℕ) where
   abbrev go_on : ℕ → ℕ → ℕ → Tree → List Lexeme → Read
   go_on = walk inner depth
 
-  walk_ends : (least n most : ℕ) (left : Tree) (ts : List Lexeme) → 0 < n → infix_at least most ts ≡ None → go_on least n most left ts ≡ Some (left, ts)
+  pub walk_ends : (least n most : ℕ) (left : Tree) (ts : List Lexeme) → 0 < n → infix_at least most ts ≡ None → go_on least n most left ts ≡ Some (left, ts)
   unfolding walk
   walk_ends least zero most left ts lt e = absurd (omega arith)
   walk_ends least (suc n) most left ts lt e = rw e refl

@@ -1,4 +1,5 @@
 pub mod FoundSummaries
+pub mod Lone
 pub mod Nests
 pub mod Parsing
 pub mod Views

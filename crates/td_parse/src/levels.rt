@@ -4,12 +4,13 @@ ghost use Rattle.td_parse.specs.code.Nests.{Nests};
 ghost use Rattle.td_parse.specs.code.Parsing.{Moves};
 ghost use Rattle.td_parse.specs.Reading as reading;
 ghost use Rattle.td_parse.specs.Reading.{read};
-ghost use Rattle.td_parse.specs.code.Walking.{tightness, walk, infix_expression};
+ghost use Rattle.td_parse.specs.code.Walking.{tightness, walk, walk_from, infix_expression};
 ghost use Rattle.td_tree.specs.code.TreeViews.{tree_view};
 
 use crate::cursor::{Cursor, SYNTAX};
 use crate::found::Found;
 use crate::grammar::Grammar;
+use crate::lone::{ends, lone_literal, opens_tuple};
 use crate::operators::{extraction, negation, next_infix, prefix, tighter};
 use crate::postfix::{begins_postfix, postfix};
 use crate::steps::{item_closed_by, item_if, pair_of};
@@ -127,6 +128,23 @@ impl<F: Fn(Global, u16, Level, &mut Cursor<'_, '_>) -> Result<Found, Fault>> Gra
         self.walk(level, Level::Multiplicative, first, tokens)
     }
 
+    /// An expression that begins with a primary one, which most often ends it.
+    #[tactic(auto, unfolding(crate::specs::Reading::postfix_expression), using(crate::proofs::LoneTuples::ends_behind, crate::proofs::LoneTuples::ends_between))]
+    fn operand_first(&self, tokens: &mut Cursor<'_, '_>) -> Result<Found, Fault>
+        requires { Nests self.now.depth (F.pre self.now.inner) (F.post self.now.inner) }
+        ensures { Moves tree_view result tokens.new
+            (walk_from (read self.now.depth) self.now.depth Level.Restriction
+            Level.Multiplicative
+            (reading.postfix_expression (read self.now.depth) self.now.depth tokens.old)) }
+    {
+        let first = self.primary(tokens)?;
+        if ends(&tokens.ahead()) {
+            return Ok(first);
+        }
+        let left = self.postfixes(first, tokens)?;
+        self.walk(Level::Restriction, Level::Multiplicative, left, tokens)
+    }
+
     /// After `WITH`.
     #[tactic(auto, unfolding(crate::specs::Reading::binding_expression))]
     fn binding_expression(&self, tokens: &mut Cursor<'_, '_>) -> Result<Found, Fault>
@@ -141,12 +159,15 @@ impl<F: Fn(Global, u16, Level, &mut Cursor<'_, '_>) -> Result<Found, Fault>> Gra
     }
 
     /// `WITH` and what it names, or an expression without it.
-    #[tactic(auto, unfolding(crate::specs::Reading::binding), using(crate::proofs::Walks::restriction_walked))]
+    #[tactic(auto, unfolding(crate::specs::Reading::binding), using(crate::proofs::Walks::restriction_walked, crate::proofs::LoneTuples::tuple_binding))]
     fn binding(&self, tokens: &mut Cursor<'_, '_>) -> Result<Found, Fault>
         requires { Nests self.now.depth (F.pre self.now.inner) (F.post self.now.inner) }
         ensures { Moves tree_view result tokens.new
             (reading.binding (read self.now.depth) self.now.depth tokens.old) }
     {
+        if opens_tuple(tokens) {
+            return self.operand_first(tokens);
+        }
         if tokens.keyword(Keyword::With) {
             return self.binding_expression(tokens);
         }
@@ -171,7 +192,7 @@ impl<F: Fn(Global, u16, Level, &mut Cursor<'_, '_>) -> Result<Found, Fault>> Gra
 }
 
 /// An expression of this level that is at most so high.
-#[tactic(auto, unfolding(crate::specs::Reading::read))]
+#[tactic(auto, unfolding(crate::specs::Reading::read), using(crate::proofs::LoneLiterals::lone_reads))]
 pub fn expression(
     alloc: Global,
     depth: u16,
@@ -182,6 +203,9 @@ pub fn expression(
 {
     if depth == 0 {
         return Err(SYNTAX);
+    }
+    if let Some(literal) = lone_literal(alloc, tokens)? {
+        return Ok(Found::literal(literal));
     }
     Grammar {
         alloc,

@@ -10,6 +10,7 @@ mod grammar;
 pub mod laws;
 mod levels;
 mod lists;
+mod lone;
 mod met;
 mod names;
 mod operators;

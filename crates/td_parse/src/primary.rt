@@ -17,13 +17,14 @@ ghost use Rattle.td_tree.specs.code.TreeViews.{tree_view};
 use crate::cursor::{Cursor, SYNTAX};
 use crate::found::Found;
 use crate::grammar::Grammar;
+use crate::lone::number_literal;
 use crate::operators::{begins_heading, call};
 use crate::steps::{item_closed_by, item_ended_by, pair_of};
 use crate::types::relation_heading;
-use crate::word::{component_of, number_of, text_of};
+use crate::word::{component_of, text_of};
 use std::alloc::Global;
 use std::rc::RcStr;
-use td_tree::expression::{Literal, MAX_MAGNITUDE};
+use td_tree::expression::Literal;
 use td_tree::fault::Fault;
 use td_tree::keyword::Keyword;
 use td_tree::name::Name;
@@ -37,11 +38,7 @@ fn numeral(minus: bool, text: &[u8]) -> Option<Found>
         ≡ (if nat_le (decimal_value text.now) (numeral_limit minus)
         then Some (trees.literal (trees.number minus (decimal_value text.now))) else None) }
 {
-    let magnitude = number_of(text)?;
-    if magnitude == MAX_MAGNITUDE && !minus {
-        return None;
-    }
-    Some(Found::literal(Literal::Number { minus, magnitude }))
+    Some(Found::literal(number_literal(minus, text)?))
 }
 
 /// After `-`: a number.

@@ -14,6 +14,7 @@ pub mod LookUpLaws
 pub mod LookUpParts
 pub mod LookUpValues
 pub mod MadePlans
+pub mod Memberships
 pub mod MemoLaws
 pub mod NamedSlots
 pub mod NarrowedOperands

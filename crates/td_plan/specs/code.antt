@@ -1,5 +1,6 @@
 pub mod Bindings
 pub mod Hands
+pub mod Memberships
 pub mod Memos
 pub mod PlanViews
 pub mod PlannedParts

@@ -8,6 +8,7 @@ pub(crate) mod hand;
 mod items;
 mod look_up;
 mod loops;
+mod memberships;
 pub(crate) mod memo;
 mod operators;
 mod quick;

@@ -1,5 +1,5 @@
 -- The value that a search by halves finds at a name, where the names ascend.
-use Rattle.std.proofs.Common.{◌≡◌, ◌∙◌, ◌∷◌, ◌<◌, ◌≤◌, ℕ, suc, zero, true, false, List, [], Result, Ok, Err, IfOk, IfErr, None, ap, arith, length, refl, sym, subst}
+use Rattle.std.proofs.Common.{◌≡◌, ◌∙◌, ◌∷◌, ◌<◌, ◌≤◌, ℕ, suc, zero, true, false, List, [], Result, Ok, Err, IfOk, IfErr, None, ap, arith, length, refl, sym}
 use Rattle.std.specs.declared.cmp.Ordering.{Ordering}
 use Rattle.std.specs.declared.cmp.Ordering.TheVariants.{Less, Equal, Greater}
 use Rattle.std.specs.Cmp.Lexicographic.{same_text, texts_ties}
@@ -10,18 +10,9 @@ use Rattle.std.proofs.lemmas.Cmp.{alike_right, nat_list_cmp_total}
 use Rattle.std.proofs.lemmas.List.Sorted.{searchable_from_sorted}
 use Rattle.td_types.specs.Types.{same_name}
 use Rattle.td_types.proofs.DistinctNames.{name_cmp}
-use Rattle.td_value.specs.code.ValueCode.{unpack_pack_fields}
-use Rattle.td_value.specs.Values.{Val, IsTuple, tuple_names, value_at}
+use Rattle.td_value.specs.Values.{Val, value_at}
 use Rattle.td_value.specs.code.Views.{tuple_view}
-use Rattle.td_value.specs.code.Zipped.{AreTuple}
 use Rattle.td_value.proofs.Places.{in_order}
-use Rattle.td_value.proofs.Zips.{zip_names}
-
--- the names of a tuple ascend
-pub names_ascend : (ns : List (List ℕ)) (vs : List Val) → AreTuple ns vs → IsStrictlySortedBy name_cmp ns
-names_ascend ns vs h =
-    let valid : IsTuple (tuple_view ns vs) = h.1 in
-    subst (IsStrictlySortedBy name_cmp) (ap tuple_names (unpack_pack_fields (tuple_view ns vs)) ∙ zip_names ns vs h.0) valid.1
 
 names_tie : (m n : List ℕ) → name_cmp m n ≡ Equal → m ≡ n
 names_tie m n e = same_text m n (sym (texts_ties m n ∙ ap is_eq e))

@@ -4,8 +4,9 @@ use Rattle.std.specs.Ordering.{ordering_then, is_lt}
 use Rattle.std.specs.declared.cmp.Ordering.{Ordering}
 use Rattle.std.specs.Cmp.{IsTotalOrder}
 use Rattle.std.specs.Cmp.Lexicographic.{slice_cmp}
-use Rattle.std.specs.List.{All, dedup}
-use Rattle.std.specs.List.Sorted.{IsSorted, IsSortedBy}
+use Rattle.std.specs.List.{All, Contains, dedup}
+use Rattle.std.specs.List.Sorted.{IsPermutation, IsSorted, IsSortedBy}
+use Rattle.std.proofs.lemmas.List.Sorted.{All-permutation}
 use Rattle.std.proofs.lemmas.Cmp.{on_total, nat_list_cmp_total, tied_itself}
 use Rattle.std.proofs.lemmas.List.Kept.{Contains-from_dedup}
 use Rattle.std.proofs.lemmas.List.Elements.{All-contains, All-contains_itself}
@@ -45,11 +46,17 @@ same_heading h s t p q = sym (names-heading s) ∙ ap heads.attribute_names (p.1
 pub HaveSameNames-from : (h : Heading) (ts : List Tuple) → All (IsTupleOf h) ts → HaveSameNames ts
 HaveSameNames-from h ts a s t p q = same_heading h s t (All-contains (IsTupleOf h) ts s a p) (All-contains (IsTupleOf h) ts t a q)
 
--- tuples of one heading that are sorted by their values are sorted
-pub sorted_from_values : (h : Heading) (ts : List Tuple) → All (IsTupleOf h) ts → IsSortedBy (λ s t. is_lt (by_values s t)) ts → IsSorted tuple_cmp ts
-sorted_from_values h ts a up k d l u =
-    let same = same_heading h (get_or ts (k + 1) d) (get_or ts k d) (a (k + 1) d u) (a k d (omega arith)) in
-    rw (tuple_order-by_values (get_or ts (k + 1) d) (get_or ts k d) same) (up k d l u)
+-- tuples of the same names that are sorted by their values are sorted
+pub sorted_from_values : (ts : List Tuple) → HaveSameNames ts → IsSortedBy (λ s t. is_lt (by_values s t)) ts → IsSorted tuple_cmp ts
+sorted_from_values ts same up k d l u =
+    let names = same (get_or ts (k + 1) d) (get_or ts k d) (All-contains_itself ts (k + 1) d u) (All-contains_itself ts k d (omega arith)) in
+    rw (tuple_order-by_values (get_or ts (k + 1) d) (get_or ts k d) names) (up k d l u)
+
+-- the same tuples in another order have the same names
+pub HaveSameNames-permuted : (ts us : List Tuple) → IsPermutation ts us → HaveSameNames ts → HaveSameNames us
+HaveSameNames-permuted ts us p same s t a b =
+    let inside = All-permutation (Contains ts) ts us p (All-contains_itself ts) in
+    same s t (All-contains (Contains ts) us s inside a) (All-contains (Contains ts) us t inside b)
 
 heading_from : (h : Heading) (t : Tuple) → fields_type (pack_fields t) ≡ pack h → heading_of t ≡ h
 heading_from h t e = sym (unpack_pack (heading_of t)) ∙ ap unpack (sym (fields_type-heading t) ∙ e) ∙ unpack_pack h

@@ -17,7 +17,8 @@ module _ {K : Type 0} (R : K → K → Ordering) (o : IsTotalOrder R) (same : (x
   absent t [] h = refl
   absent t (x ∷ xs) h = rw h.0 (absent t xs h.1)
 
-  below_all : (t x : K) (xs : List K) → R t x ≡ Less → AllByRecursion (λ y. R x y ≡ Less) xs → AllByRecursion (λ y. R t y ≡ Less) xs
+  -- what is below an item is below all that come after it
+  pub below_all : (t x : K) (xs : List K) → R t x ≡ Less → AllByRecursion (λ y. R x y ≡ Less) xs → AllByRecursion (λ y. R t y ≡ Less) xs
   below_all t x [] e h = tt
   below_all t x (y ∷ ys) e h = (o.trans t x y e h.0, below_all t x ys e h.1)
 

@@ -1,3 +1,4 @@
+pub mod Blocks
 pub mod Depths
 pub mod Falls
 pub mod ValueCode

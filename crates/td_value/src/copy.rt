@@ -32,13 +32,15 @@ impl Value {
 }
 
 impl Tuple {
-    /// A copy of the tuple, which shares this one's names and values.
+    /// A copy of the tuple, which shares this one's block.
     pub fn try_clone(&self) -> Result<Tuple, AllocError>
         ensures { IfOk result (λ t. t ≡ self.now) }
     {
-        let names = self.names.clone()?;
-        let values = self.values.clone()?;
-        Ok(Tuple { names, values })
+        let block = self.block.clone()?;
+        Ok(Tuple {
+            block,
+            start: self.start,
+        })
     }
 }
 

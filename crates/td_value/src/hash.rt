@@ -35,7 +35,7 @@ fn feed_user<H: Hasher>(u: &User, state: &mut H)
 fn feed_tuple<H: Hasher>(t: &Tuple, state: &mut H)
     ensures { state.new ≡ fold H.write state.old (fed_tuple t.now) }
 {
-    feed_parts(&t.values, state);
+    feed_parts(t.values(), state);
 }
 
 #[cycle(feed)]

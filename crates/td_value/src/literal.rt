@@ -89,7 +89,7 @@ fn write_tuple(t: &Tuple, out: &mut String) -> Result<(), AllocError>
     ensures { OnOk result (string_bytes out.new ≡ string_bytes out.old ++ tuple_literal t.now) }
 {
     out.push_str("TUPLE {")?;
-    write_entries(&t.names, &t.values, out)
+    write_entries(t.names(), t.values(), out)
 }
 
 /// Puts the entries, and closes them.
@@ -149,7 +149,7 @@ impl Tuple {
     pub fn literal(&self) -> Result<String, AllocError>
         ensures { IfOk result (λ s. string_bytes s ≡ tuple_literal self.now) }
     {
-        let mut out = String::new(*self.values.allocator());
+        let mut out = String::new(*self.block.cells.allocator());
         write_tuple(self, &mut out)?;
         Ok(out)
     }

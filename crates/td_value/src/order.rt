@@ -77,7 +77,7 @@ fn compare_parts(a: &[Value], b: &[Value]) -> Ordering
 pub fn compare_tuples(a: &Tuple, b: &Tuple) -> Ordering
     ensures { result ≡ tuple_cmp a.now b.now }
 {
-    compare_entries(&a.names, &a.values, &b.names, &b.values)
+    compare_entries(a.names(), a.values(), b.names(), b.values())
 }
 
 /// By the values alone, in name order: of tuples of the same names this is their order.

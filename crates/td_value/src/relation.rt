@@ -1,20 +1,21 @@
 //! Relations.
-ghost use Rattle.std.specs.Prelude.{◌≡◌, ◌<◌, ◌≤◌, IfErr, IfOk, OnErr, OnOk, length, not};
-ghost use Rattle.std.specs.List.{All, Contains, insert, remove};
+ghost use Rattle.std.specs.Prelude.{◌≡◌, ◌<◌, ◌≤◌, IfErr, IfOk, IsTrue, OnErr, OnOk, length};
+ghost use Rattle.std.specs.Prelude.{not};
+ghost use Rattle.std.specs.List.{All, insert, remove};
 ghost use Rattle.td_value.specs.Places.{IsPlaceFor, IsPlaceOf};
 ghost use Rattle.td_value.specs.Sets.{has, set_of};
-ghost use Rattle.td_value.specs.Values.{Tuple, HaveSameMembers, HaveSameNames};
-ghost use Rattle.td_value.specs.Values.{IsAscendingBody, IsTupleOf, tuple_names, tuple_cmp};
+ghost use Rattle.td_value.specs.Values.{HaveSameMembers, HaveSameNames};
+ghost use Rattle.td_value.specs.Values.{IsAscendingBody, IsTupleOf, tuple_cmp};
 ghost use Rattle.td_value.specs.Values.{with_tuple, without_tuple};
 ghost use Rattle.td_value.specs.code.Views.{relation_view};
 
 use crate::lists::put;
 use crate::order::compare_by_values;
+use crate::sharing::gathered;
 use crate::tuple::Tuple;
 use std::alloc::AllocError;
 use std::marker::Model;
 use std::rc::Rc;
-use td_tree::name::Name;
 use td_types::heading::Heading;
 
 /// A heading with a set of tuples, seen as the strictly ascending list of them. Copies of a
@@ -48,37 +49,33 @@ impl Model for Rel {
     ghost size_decreases = { λ a h. relation_falls a.rows.value.items };
 }
 
-/// Takes the list of the same names in place of the tuple's own.
-fn take_names(row: &mut Tuple, names: &Rc<Vec<Name>>) -> Result<(), AllocError>
-    requires { names.now.value.items ≡ tuple_names row.old }
-    ensures { OnOk result (row.new ≡ row.old) }
+/// Whether each of the tuples stands before the next.
+fn ascend(rows: &[Tuple]) -> bool
+    requires { HaveSameNames rows.now }
+    ensures { IsTrue result → IsAscendingBody rows.now }
 {
-    row.names = names.clone()?;
-    Ok(())
-}
-
-/// Takes the list of the same names in place of the own one of each tuple but the first.
-fn take_names_after_first(rows: &mut [Tuple], names: &Rc<Vec<Name>>) -> Result<(), AllocError>
-    requires { (t : Tuple) → Contains rows.old t → names.now.value.items ≡ tuple_names t }
-    ensures { OnOk result (rows.new ≡ rows.old) }
-{
-    for place in 1..rows.len() {
-        let row = &mut rows[place];
-        take_names(row, names)?;
+    let mut place = rows.len().saturating_sub(1);
+    while place > 0 {
+        if !compare_by_values(&rows[place - 1], &rows[place]).is_lt() {
+            return false;
+        }
+        place -= 1;
     }
-    Ok(())
+    true
 }
 
-/// Lets all tuples share the first one's list of names.
-fn share_names(rows: &mut [Tuple]) -> Result<(), AllocError>
-    requires { HaveSameNames rows.old }
-    ensures { OnOk result (rows.new ≡ rows.old) }
+/// The tuples in their order, each once.
+fn in_order(rows: Vec<Tuple>) -> Vec<Tuple>
+    requires { HaveSameNames rows.items }
+    ensures { result.items ≡ set_of tuple_cmp rows.items }
 {
-    let Some(first) = rows.first() else {
-        return Ok(());
-    };
-    let names = first.names.clone()?;
-    take_names_after_first(rows, &names)
+    let mut rows = rows;
+    if !ascend(&rows) {
+        rows.sort_unstable_by(|a, b| compare_by_values(a, b));
+        rows.dedup();
+        rows.shrink_to_fit();
+    }
+    rows
 }
 
 /// The tuples again, in a list of their own with room for so many.
@@ -167,16 +164,13 @@ fn take_at(rows: &mut Rc<Vec<Tuple>>, place: usize) -> Result<(), AllocError>
 
 impl Rel {
     /// The relation with that heading whose body is the set of the tuples.
-    pub fn new(heading: Heading, mut rows: Vec<Tuple>) -> Result<Rel, AllocError>
+    pub fn new(heading: Heading, rows: Vec<Tuple>) -> Result<Rel, AllocError>
         requires { All (IsTupleOf heading) rows.items }
         ensures value { IfOk result (λ r. r ≡ relation_view heading (set_of tuple_cmp rows.items)) }
         ensures members { IfOk result (λ r. HaveSameMembers r.body rows.items) }
     {
         heading.reveal();
-        rows.sort_unstable_by(|a, b| compare_by_values(a, b));
-        rows.dedup();
-        rows.shrink_to_fit();
-        share_names(&mut rows)?;
+        let rows = gathered(in_order(rows))?;
         Rel::of_ascending(heading, rows)
     }
 

@@ -1,5 +1,5 @@
 //! Tuples.
-ghost use Rattle.std.specs.Prelude.{◌≡◌, ◌↔◌, ◌∷◌, ◌++◌, [], IfOk, IsTrue, OnOk};
+ghost use Rattle.std.specs.Prelude.{◌≡◌, ◌↔◌, ◌+◌, ◌≤◌, ◌∷◌, ◌++◌, [], IfOk, IsTrue, OnOk};
 ghost use Rattle.std.specs.Prelude.{length, option_map};
 ghost use Rattle.std.specs.Ordering.{is_lt, nat_cmp};
 ghost use Rattle.std.specs.Cmp.Lexicographic.{slice_cmp};
@@ -24,13 +24,22 @@ use td_tree::name::Name;
 use td_types::heading::Heading;
 use td_types::names::{is_among, names_of, repeats_a_name};
 
-/// A finite map from names to values, seen as its entries in name order. The tuples of one relation
-/// share one list of names, and copies of a tuple share its values too.
+/// The values of tuples of the same names, one tuple after the other.
+#[cycle(value)]
+#[derive(Drop)]
+pub struct Block {
+    pub(crate) names: Rc<Vec<Name>>,
+    pub(crate) width: usize,
+    pub(crate) cells: Vec<Value>,
+}
+
+/// A finite map from names to values, seen as its entries in name order: one row of a block, where
+/// it begins. The tuples of one relation mostly share a block, and so do copies of a tuple.
 #[cycle(value)]
 #[derive(Drop)]
 pub struct Tuple {
-    pub(crate) names: Rc<Vec<Name>>,
-    pub(crate) values: Rc<Vec<Value>>,
+    pub(crate) block: Rc<Block>,
+    pub(crate) start: usize,
 }
 
 impl Model for Tuple {
@@ -42,18 +51,39 @@ impl Model for Tuple {
 
     ghost coded = { tuple_code };
 
-    ghost use Rattle.td_value.specs.code.Views.{tuple_view};
-    ghost use Rattle.td_value.specs.code.Zipped.{AreTuple};
+    ghost use Rattle.td_value.specs.code.Blocks.{IsRow, row_view};
 
-    ghost view = { λ a. tuple_view a.names.value.items a.values.value.items };
+    ghost view = { λ a.
+        row_view a.block.value.names.value.items a.start a.block.value.cells.items };
 
-    ghost invariant = { λ a. AreTuple a.names.value.items a.values.value.items };
+    ghost invariant = { λ a. IsRow a.block.value.names.value.items a.block.value.width a.start
+        a.block.value.cells.items };
 
     ghost size = { tuple_depth };
 
-    ghost use Rattle.td_value.specs.code.Falls.{fields_fall};
+    ghost use Rattle.td_value.specs.code.Falls.{block_falls};
 
-    ghost size_decreases = { λ a h. fields_fall a.names.value.items a.values.value.items h.0 };
+    ghost size_decreases = { λ a h. block_falls a.block.value.cells.items _ h.deepest };
+}
+
+/// The tuple of the names with the values, in a block of its own.
+pub(crate) fn lone_row(
+    alloc: Global,
+    names: Rc<Vec<Name>>,
+    values: Vec<Value>,
+) -> Result<Tuple, AllocError>
+    requires same { length names.value.items ≡ length values.items }
+    requires valid { IsTuple (tuple_view names.value.items values.items) }
+    ensures { IfOk result (λ t. t ≡ tuple_view names.value.items values.items) }
+{
+    let width = values.len();
+    let block = Block {
+        names,
+        width,
+        cells: values,
+    };
+    let block = Rc::new(alloc, block)?;
+    Ok(Tuple { block, start: 0 })
 }
 
 impl Tuple {
@@ -62,70 +92,23 @@ impl Tuple {
         ensures answer { Answers (λ t. t) result (made_tuple entries.items) }
         ensures values { IfOk result (HasValuesOf entries.items) }
     {
-        Tuple::new_like(alloc, None, entries)
-    }
-
-    /// As `new`. Where the names are those of the other tuple, it shares that one's list of names.
-    pub fn new_like(
-        alloc: Global,
-        like: Option<&Tuple>,
-        entries: Vec<(Name, Value)>,
-    ) -> Result<Tuple, Fault>
-        ensures answer { Answers (λ t. t) result (made_tuple entries.items) }
-        ensures values { IfOk result (HasValuesOf entries.items) }
-    {
         let mut sorted = entries;
         sorted.sort_unstable();
         if repeats_a_name(&sorted) {
             return Err(Fault::Refused(Cause::Heading));
         }
-        Ok(from_sorted(alloc, like, sorted)?)
+        Ok(from_sorted(alloc, sorted)?)
     }
 }
 
 /// The tuple of entries whose names ascend.
-fn from_sorted(
-    alloc: Global,
-    like: Option<&Tuple>,
-    entries: Vec<(Name, Value)>,
-) -> Result<Tuple, AllocError>
+fn from_sorted(alloc: Global, entries: Vec<(Name, Value)>) -> Result<Tuple, AllocError>
     requires { IsStrictlySortedBy (slice_cmp nat_cmp) (tuple_names entries.items) }
     ensures { IfOk result (λ t. t ≡ entries.items) }
 {
-    let names = listed_names(alloc, like, &entries)?;
-    let values = Rc::new(alloc, values_alone(alloc, entries)?)?;
-    Ok(Tuple { names, values })
-}
-
-/// The list of the entries' names: the tuple's own where that is the same.
-fn listed_names(
-    alloc: Global,
-    like: Option<&Tuple>,
-    entries: &[(Name, Value)],
-) -> Result<Rc<Vec<Name>>, AllocError>
-    ensures { IfOk result (λ names. names.value.items ≡ tuple_names entries.now) }
-{
-    match like {
-        Some(like) if are_names_of(&like.names, entries) => like.names.clone(),
-        _ => Ok(Rc::new(alloc, names_of(alloc, entries)?)?),
-    }
-}
-
-/// Whether the names are those of the entries, in the same order.
-fn are_names_of(names: &[Name], entries: &[(Name, Value)]) -> bool
-    ensures { IsTrue result → (names.now ≡ tuple_names entries.now) }
-{
-    if names.len() != entries.len() {
-        return false;
-    }
-    let mut place = 0;
-    for name in names {
-        if entries[place].0 != *name {
-            return false;
-        }
-        place += 1;
-    }
-    true
+    let names = Rc::new(alloc, names_of(alloc, &entries)?)?;
+    let values = values_alone(alloc, entries)?;
+    lone_row(alloc, names, values)
 }
 
 /// The values of the entries.
@@ -182,17 +165,6 @@ fn keep_entries(
     Ok(())
 }
 
-/// The tuple of the names with the values.
-fn from_lists(alloc: Global, names: Vec<Name>, values: Vec<Value>) -> Result<Tuple, AllocError>
-    requires same { length names.items ≡ length values.items }
-    requires valid { IsTuple (tuple_view names.items values.items) }
-    ensures { IfOk result (λ t. t ≡ tuple_view names.items values.items) }
-{
-    let names = Rc::new(alloc, names)?;
-    let values = Rc::new(alloc, values)?;
-    Ok(Tuple { names, values })
-}
-
 impl Tuple {
     /// The tuple of the list's names with the values, in the same order. It shares the list.
     pub fn of(alloc: Global, names: &NameList, values: Vec<Value>) -> Result<Tuple, AllocError>
@@ -200,9 +172,7 @@ impl Tuple {
         ensures { IfOk result (λ t. t ≡ tuple_view names.now values.items) }
     {
         know_values(&values);
-        let names = names.names.clone()?;
-        let values = Rc::new(alloc, values)?;
-        Ok(Tuple { names, values })
+        lone_row(alloc, names.names.clone()?, values)
     }
 }
 
@@ -220,7 +190,7 @@ fn kept_entries(
     let mut kept_names = Vec::with_capacity(alloc, wanted.len())?;
     let mut kept_values = Vec::with_capacity(alloc, wanted.len())?;
     keep_entries(names, values, wanted, &mut kept_names, &mut kept_values)?;
-    from_lists(alloc, kept_names, kept_values)
+    lone_row(alloc, Rc::new(alloc, kept_names)?, kept_values)
 }
 
 impl Tuple {
@@ -228,7 +198,12 @@ impl Tuple {
     pub fn project(&self, names: &[Name]) -> Result<Tuple, AllocError>
         ensures { IfOk result (λ t. t ≡ projected_tuple names.now self.now) }
     {
-        kept_entries(&self.names, &self.values, names, *self.values.allocator())
+        kept_entries(
+            self.names(),
+            self.values(),
+            names,
+            *self.block.cells.allocator(),
+        )
     }
 }
 
@@ -240,7 +215,7 @@ impl Tuple {
     pub fn len(&self) -> usize
         ensures { result ≡ length self.now }
     {
-        self.values.len()
+        self.block.width
     }
 
     /// Whether it is the tuple without attributes.
@@ -255,14 +230,14 @@ impl Tuple {
         ensures names { result.now ≡ tuple_names self.now }
         ensures valid { IsTuple self.now }
     {
-        self.names.as_slice()
+        self.block.names.as_slice()
     }
 
     /// What holds of every tuple. It takes no time.
     pub fn reveal(&self)
         ensures { IsTuple self.now }
     {
-        let _ = self.values.len();
+        let _ = &self.block;
     }
 
     /// The values, in the order of their names.
@@ -270,14 +245,16 @@ impl Tuple {
         ensures values { result.now ≡ values_of self.now }
         ensures valid { IsTuple self.now }
     {
-        self.values.as_slice()
+        let block: &Block = &self.block;
+        let end = self.start + block.width;
+        &block.cells[self.start..end]
     }
 
     /// The value of the attribute of that name.
     pub fn get(&self, name: &Name) -> Option<&Value>
         ensures { option_map (λ v. v.now) result ≡ value_at name.now self.now }
     {
-        value_named(&self.names, &self.values, name)
+        value_named(self.names(), self.values(), name)
     }
 }
 

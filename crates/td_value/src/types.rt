@@ -39,7 +39,7 @@ fn has_type(v: &Value, ty: &Ty) -> bool
 fn tuple_has_heading(t: &Tuple, heading: &Heading) -> bool
     ensures { result ≡ is_eq (attrs_cmp (fields_type (pack_fields t.now)) (pack heading.now)) }
 {
-    entries_have_heading(&t.names, &t.values, heading)
+    entries_have_heading(t.names(), t.values(), heading)
 }
 
 #[cycle(fit)]
@@ -103,7 +103,7 @@ fn find_type(alloc: Global, v: &Value) -> Result<Ty, AllocError>
 fn find_heading(alloc: Global, t: &Tuple) -> Result<Heading, AllocError>
     ensures { IfOk result (λ h. h ≡ heading_of t.now) }
 {
-    entries_heading(alloc, &t.names, &t.values)
+    entries_heading(alloc, t.names(), t.values())
 }
 
 #[cycle(find)]
@@ -143,7 +143,7 @@ impl Tuple {
         ensures fits { IsTrue result ↔ IsTupleOf heading.now self.now }
         ensures test { result ≡ eq_by_cmp heading_cmp (heading_of self.now) heading.now }
     {
-        let _ = &self.values;
+        self.reveal();
         tuple_has_heading(self, heading)
     }
 
@@ -151,7 +151,7 @@ impl Tuple {
     pub fn heading(&self) -> Result<Heading, AllocError>
         ensures { IfOk result (λ h. h ≡ heading_of self.now) }
     {
-        find_heading(*self.values.allocator(), self)
+        find_heading(*self.block.cells.allocator(), self)
     }
 
     /// The tuple type of the heading.

@@ -124,7 +124,7 @@ impl Value {
     pub fn tuple(alloc: Global, t: Tuple) -> Result<Value, AllocError>
         ensures { IfOk result (λ v. v ≡ tuple (pack_fields t)) }
     {
-        let _ = &t.values;
+        t.reveal();
         let node = Node::Tup(Rc::new(alloc, t)?);
         Ok(Value { node })
     }

@@ -1,10 +1,14 @@
 -- Where the values of a result's tuples come from: each name with a place in the values of one operand's tuple followed by
 -- those of the other's (this project's own).
-use Rattle.std.specs.Prelude.{◌≡◌, ℕ, ◌+◌, ◌<◌, List, [], ◌∷◌, ◌++◌, length, Option, None, Some, if◌then◌else◌, map}
+use Rattle.std.specs.Prelude.{◌≡◌, ℕ, ◌+◌, ◌<◌, List, [], ◌∷◌, ◌++◌, length, Option, None, Some, false, get_or, if◌then◌else◌, map}
+use Rattle.std.specs.Cmp.Lexicographic.{slice_cmp}
 use Rattle.std.specs.List.{All, slice_get}
+use Rattle.std.specs.List.Sorted.{IsStrictlySortedBy}
+use Rattle.std.specs.Ordering.{nat_cmp}
 use Rattle.td_types.specs.Headings.{has_attribute}
 use Rattle.td_types.specs.Types.{Heading}
-use Rattle.td_value.specs.Values.{Val, Tuple, tuple_of}
+use Rattle.td_value.specs.Values.{Val, Tuple, boolean, tuple_of}
+use Rattle.td_value.specs.code.Blocks.{Making}
 
 -- names, each with the place of its value
 abbrev pub Sources : Type 0
@@ -52,6 +56,16 @@ placed_tuple sources vs = tuple_of (entries_taken sources vs)
 -- the tuple is the one of what is taken from some values
 abbrev pub IsMade : Sources → Tuple → Type 0
 IsMade sources t = (vs : List Val) × AreInRange sources vs × (t ≡ placed_tuple sources vs)
+
+-- the values at the places, in the order of the sources
+abbrev pub placed_values : Sources → List Val → List Val
+placed_values sources vs = map (λ s. get_or vs s.1 (boolean false)) sources
+
+-- tuples of the names, which ascend, and each is one of what is taken from some values
+pub record IsLaidOut (sources : Sources) (m : Making) : Type 0 where
+  pub names : m.names ≡ source_names sources
+  pub ascending : IsStrictlySortedBy (slice_cmp nat_cmp) (source_names sources)
+  pub made : All (IsMade sources) m.tuples
 
 -- the names of a heading with their places, but for those that the part has too; and then more names
 abbrev pub sources_with : Heading → Heading → List (List ℕ) → Sources

@@ -46,23 +46,28 @@ impl Model for HashBody {
         IsHashBody (map (λ key. key.items) b.keys.value.items) b.members b.aside.items b.count };
 }
 
-/// The relation after a change: where all members go out, the one that comes in.
+/// The members after a change, made anew: where all go out, those that come in.
 fn changed_members(
     alloc: Global,
     members: &Members,
     out: &Rel,
     add: &Rel,
-) -> Result<Rel, AllocError>
+) -> Result<Members, AllocError>
     requires out { out.now.heading ≡ members.now.relation.heading }
     requires add { add.now.heading ≡ members.now.relation.heading }
-    ensures { IfOk result (λ r. r ≡ after_change out.now add.now members.now.relation) }
+    ensures relation { IfOk result (λ m.
+        m.relation ≡ after_change out.now add.now members.now.relation) }
+    ensures kept { IfOk result (λ m. m.kept ≡ []) }
+    ensures places { IfOk result (λ m. m.places ≡ members.now.places) }
 {
     members.reveal();
     add.reveal();
+    let new = add.rows().len();
     if members.are(out.rows()) {
-        return add.try_clone();
+        return members.renewed(add.try_clone()?, new);
     }
-    changed_relation(alloc, &members.to_rel(alloc)?, out, add)
+    let next = changed_relation(alloc, &members.to_rel(alloc)?, out, add)?;
+    members.renewed(next, members.held().saturating_add(new))
 }
 
 /// Puts the members aside, and the next ones in their place.
@@ -119,7 +124,7 @@ fn change_members(
     if !is_whole(members, out, add) {
         return members.change(out.rows(), add.rows());
     }
-    let next = members.renewed(changed_members(alloc, members, out, add)?)?;
+    let next = changed_members(alloc, members, out, add)?;
     put_aside(aside, members, next)
 }
 
@@ -164,13 +169,14 @@ impl Body for HashBody {
         let Some(count) = self.count.checked_add(1) else {
             return Err(AllocError);
         };
+        let add = add.try_clone()?.kept_small()?;
         self.members.compact();
         change_members(
             *self.keys.allocator(),
             &mut self.members,
             &mut self.aside,
             out,
-            add,
+            &add,
         )?;
         self.count = count;
         Ok(())
@@ -216,7 +222,8 @@ impl Body for HashBody {
 
     fn try_clone(&self) -> Result<Self, AllocError> {
         let alloc = *self.keys.allocator();
-        let members = self.members.renewed(self.members.to_rel(alloc)?)?;
+        let relation = self.members.to_rel(alloc)?;
+        let members = self.members.renewed(relation, self.members.held())?;
         Ok(HashBody {
             keys: self.keys.clone()?,
             members,

@@ -43,6 +43,8 @@ pub(crate) struct Members {
     log: Vec<Step>,
     /// Where the next tuple that goes out is looked for first.
     hint: usize,
+    /// How many tuples came in since they were last moved together: what their blocks may hold.
+    held: usize,
 }
 
 impl Model for Members {
@@ -76,7 +78,13 @@ const MEMBERS_A_TUPLE: usize = 4;
 
 impl Members {
     /// The members that have these indexes, which keep nothing.
-    fn fresh(alloc: Global, rows: Rows, alive: usize, indexes: Vec<KeyIndex>) -> Members
+    fn fresh(
+        alloc: Global,
+        rows: Rows,
+        alive: usize,
+        indexes: Vec<KeyIndex>,
+        held: usize,
+    ) -> Members
         requires apart { tuples_of (live rows.rows rows.gone) ≡ live rows.rows rows.gone }
         requires alive { alive ≡ length (live rows.rows rows.gone) }
         requires index { All (IsIndex rows.rows rows.gone) indexes.items }
@@ -94,6 +102,7 @@ impl Members {
             indexes,
             log: Vec::new(alloc),
             hint: 0,
+            held,
         }
     }
 
@@ -112,11 +121,12 @@ impl Members {
         let alive = relation.rows().len();
         let rows = Rows::of(alloc, relation)?;
         let indexes = indexes_of(alloc, keys, &rows)?;
-        Ok(Members::fresh(alloc, rows, alive, indexes))
+        Ok(Members::fresh(alloc, rows, alive, indexes, alive))
     }
 
-    /// The members that the relation has, found by the keys of these.
-    pub(crate) fn renewed(&self, relation: Rel) -> Result<Members, AllocError>
+    /// The members that the relation has, found by the keys of these, where the blocks of its
+    /// tuples hold so many.
+    fn made_of(&self, relation: Rel, held: usize) -> Result<Members, AllocError>
         ensures relation { IfOk result (λ m. m.relation ≡ relation) }
         ensures kept { IfOk result (λ m. m.kept ≡ []) }
         ensures places { IfOk result (λ m. m.places ≡ self.now.places) }
@@ -126,7 +136,22 @@ impl Members {
         let alive = relation.rows().len();
         let rows = Rows::of(alloc, relation)?;
         let indexes = indexes_like(alloc, &self.indexes, &self.rows, &rows)?;
-        Ok(Members::fresh(alloc, rows, alive, indexes))
+        Ok(Members::fresh(alloc, rows, alive, indexes, held))
+    }
+
+    /// The members that the relation has, found by the keys of these. Its tuples are moved together
+    /// first where their blocks may hold more than twice as many, which is given.
+    pub(crate) fn renewed(&self, relation: Rel, held: usize) -> Result<Members, AllocError>
+        ensures relation { IfOk result (λ m. m.relation ≡ relation) }
+        ensures kept { IfOk result (λ m. m.kept ≡ []) }
+        ensures places { IfOk result (λ m. m.places ≡ self.now.places) }
+    {
+        let count = relation.rows().len();
+        if held / 2 > count {
+            self.made_of(relation.moved_together()?, count)
+        } else {
+            self.made_of(relation, held)
+        }
     }
 
     // ---- what is seen
@@ -220,6 +245,11 @@ impl Members {
         self.alive.before.len()
     }
 
+    /// How many tuples their blocks may hold.
+    pub(crate) fn held(&self) -> usize {
+        self.held
+    }
+
     /// Whether many are gone or came late.
     pub(crate) fn is_loose(&self) -> bool {
         self.rows.is_loose(self.alive.now)
@@ -251,11 +281,13 @@ impl Members {
         put_in_every(&mut self.indexes, &self.rows, tuple);
         self.rows.push(copy);
         self.alive.now += 1;
+        self.held = self.held.saturating_add(1);
         note(&mut self.log, Step::Added);
         Ok(())
     }
 
-    /// Makes the tuple a member, and answers whether it was none.
+    /// Makes the tuple a member, in a block that holds no more than it needs, and answers whether
+    /// it was none.
     pub(crate) fn insert(&mut self, tuple: &Tuple) -> Result<bool, AllocError>
         requires headed { IsTupleOf self.old.relation.heading tuple.now }
         ensures new { IfOk result (λ new.
@@ -270,7 +302,7 @@ impl Members {
         if self.contains(tuple) {
             return Ok(false);
         }
-        self.put_in(tuple)?;
+        self.put_in(&tuple.kept_small()?)?;
         Ok(true)
     }
 
@@ -441,7 +473,7 @@ impl Members {
             return;
         }
         if let Ok(relation) = self.to_rel(*self.log.allocator()) {
-            if let Ok(next) = self.renewed(relation) {
+            if let Ok(next) = self.renewed(relation, self.held) {
                 *self = next;
             }
         }

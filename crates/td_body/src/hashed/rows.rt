@@ -14,7 +14,7 @@ use td_types::heading::Heading;
 use td_value::relation::Rel;
 use td_value::tuple::Tuple;
 
-/// Tuples that are numbered from 0 up: those of a relation, in its order, and those that came later.
+/// Tuples that are numbered from 0 up: those of a relation in its order, and those that came later.
 /// A tuple that went out keeps its number, and is marked.
 #[derive(Drop)]
 pub(crate) struct Rows {

@@ -1,11 +1,11 @@
 //! The values of tuples and of relations by their parts.
-ghost use Rattle.std.specs.Prelude.{IfOk, List, map};
+ghost use Rattle.std.specs.Prelude.{IfOk, List, OnOk, map};
 ghost use Rattle.std.specs.List.{All};
 ghost use Rattle.td_eval.specs.OperatorValues.{element_of, headed_value, listed_value};
 ghost use Rattle.td_eval.specs.OperatorValues.{tuple_from};
 ghost use Rattle.td_tree.specs.Outcomes.{Answers, Outcome, gathered, with_both};
 ghost use Rattle.td_types.specs.Types.{Heading};
-ghost use Rattle.td_value.specs.Values.{IsTupleOf, Val};
+ghost use Rattle.td_value.specs.Values.{IsTupleOf, Val, tuple_value};
 
 use crate::operators::asked::tuple_in;
 use crate::operators::relational::{as_value, fit};
@@ -80,4 +80,34 @@ pub fn value_of_headed(
 {
     let (heading, elements) = both(heading, elements)?;
     headed_value(alloc, heading, &elements)
+}
+
+/// That the tuples are of the heading: refused where one is not.
+fn all_fit(heading: &Heading, tuples: &[Tuple]) -> Result<(), Fault>
+    ensures answer { Answers (λ _. tuples.now) result
+        (gathered (map (λ t. element_of heading.now (tuple_value t)) tuples.now)) }
+    ensures headed { OnOk result (All (IsTupleOf heading.now) tuples.now) }
+{
+    for tuple in tuples {
+        fit(tuple.has_heading(heading))?;
+    }
+    Ok(())
+}
+
+/// The relation of the heading with the tuples, which are of it.
+pub fn headed_tuples(alloc: Global, heading: Heading, tuples: Vec<Tuple>) -> Result<Value, Fault>
+    ensures { Answers (λ v. v) result (headed_value heading (map tuple_value tuples.items)) }
+{
+    all_fit(&heading, &tuples)?;
+    as_value(alloc, Rel::new(heading, tuples))
+}
+
+/// The relation of the tuples, which are of one heading, the first one's.
+pub fn listed_tuples(alloc: Global, tuples: Vec<Tuple>) -> Result<Value, Fault>
+    ensures { Answers (λ v. v) result (listed_value (map tuple_value tuples.items)) }
+{
+    match tuples.first() {
+        Some(first) => headed_tuples(alloc, first.heading()?, tuples),
+        None => Err(Fault::Refused(Cause::TypeMismatch)),
+    }
 }

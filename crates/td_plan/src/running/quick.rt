@@ -55,7 +55,11 @@ fn lent_attribute<'h>(hand: &'h Hand<'_, '_>, slot: usize, place: usize) -> Opti
 
 /// The value of a step that is a constant, an attribute or a part whose answer is kept.
 #[inline]
-fn quick_value<'h>(memo: &'h Memo, hand: &'h Hand<'_, '_>, step: &'h Step) -> Option<&'h Value>
+pub(crate) fn quick_value<'h>(
+    memo: &'h Memo,
+    hand: &'h Hand<'_, '_>,
+    step: &'h Step,
+) -> Option<&'h Value>
     ensures { (ps : Parts) (w : World) → IsSound ps step.now
         → IsMemo ps w (slots_of hand.now) memo.now
         → IsQuick (λ v. v.now) result (step_value w (slots_of hand.now) step.now) }

@@ -13,6 +13,7 @@ ghost use Rattle.td_value.specs.Values.{Tuple, Val, boolean, integer};
 
 use crate::plan::step::{Dyadic, Monadic, Step};
 use crate::running::hand::{Inside, hand_inside};
+use crate::running::memberships::memberships;
 use crate::running::memo::Memo;
 use crate::running::quick::{numbers_compared, quick_truth, truths_operated};
 use crate::running::quick_bound::quick_behind;
@@ -241,7 +242,7 @@ fn part_length(count: usize) -> usize
 }
 
 /// The truth values that a condition gives in tuples, part by part.
-pub(crate) fn quick_truths(
+fn truths_by_parts(
     alloc: Global,
     memo: &Memo,
     inside: &Inside,
@@ -262,4 +263,22 @@ pub(crate) fn quick_truths(
         rest = after;
     }
     Ok(Some(truths))
+}
+
+/// The truth values that a condition gives in tuples: at once where it is IN one relation, else part
+/// by part.
+pub(crate) fn quick_truths(
+    alloc: Global,
+    memo: &Memo,
+    inside: &Inside,
+    rows: &[Tuple],
+    condition: &Step,
+) -> Result<Option<Vec<bool>>, AllocError>
+    ensures { IfOk result (λ found. AreQuickInside boolean memo.now inside.now condition.now
+        rows.now found) }
+{
+    match memberships(alloc, memo, inside, rows, condition)? {
+        Some(truths) => Ok(Some(truths)),
+        None => truths_by_parts(alloc, memo, inside, rows, condition),
+    }
 }

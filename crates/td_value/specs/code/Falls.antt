@@ -1,12 +1,12 @@
 -- Each value inside a value is less deep.
-use Rattle.std.specs.Prelude.{ℕ, ◌≤◌, ◌+◌, max, List, [], ◌∷◌, length, ◌≡◌}
+use Rattle.std.specs.Prelude.{ℕ, ◌≤◌, ◌+◌, max, List, [], ◌∷◌}
 use Rattle.std.proofs.Common.{arith}
 use Rattle.td_value.specs.code.Depths.{depth, parts_depth, rows_depth, tuple_depth}
 use Rattle.td_value.specs.Values.{Val, Tuple, pack_parts, pack_rows}
 use Rattle.td_value.specs.declared.value.Node.{Node}
 use Rattle.td_value.specs.declared.value.Node.TheVariants.{Bool, Int, Text, User, Tup, Rel}
 use Rattle.td_value.specs.declared.relation.Rel.TheDeep.{deep-Node}
-use Rattle.td_value.specs.code.Views.{node_view, tuple_view}
+use Rattle.td_value.specs.code.Views.{node_view}
 use denote.Param.Weighed.{most}
 
 pub parts_fall : (vs : List Val) → max (most (λ v. depth v + 1) vs) 0 ≤ parts_depth (pack_parts vs)
@@ -21,11 +21,9 @@ node_falls (User u) = omega arith
 node_falls (Tup t) = omega arith
 node_falls (Rel r) = omega arith
 
-pub fields_fall : (ns : List (List ℕ)) (vs : List Val) → length ns ≡ length vs → max (most (λ v. depth v + 1) vs) 0 ≤ tuple_depth (tuple_view ns vs)
-fields_fall [] [] e = omega arith
-fields_fall [] (v ∷ vs) e = omega (arith, e)
-fields_fall (n ∷ ns) [] e = omega (arith, e)
-fields_fall (n ∷ ns) (v ∷ vs) e = omega (arith, fields_fall ns vs (omega (arith, e)))
+-- no value of the list nests deeper than the row does, so none that the block holds does
+pub block_falls : (vs : List Val) (n : ℕ) → parts_depth (pack_parts vs) ≤ n → max (max (most (λ v. depth v + 1) vs) 0) 0 ≤ n
+block_falls vs n h = omega (arith, parts_fall vs, h)
 
 rows_fall : (ts : List Tuple) → most (λ t. tuple_depth t + 1) ts ≤ rows_depth (pack_rows ts)
 rows_fall [] = omega arith

@@ -1,17 +1,13 @@
 -- Tuples by the list of their names and the list of their values.
-use Rattle.std.specs.Prelude.{◌≡◌, ℕ, Bool, List, length}
+use Rattle.std.specs.Prelude.{ℕ, Bool, List}
 use Rattle.std.specs.Cmp.Lexicographic.{slice_cmp}
 use Rattle.std.specs.List.{All}
 use Rattle.std.specs.List.Sorted.{IsStrictlySortedBy}
 use Rattle.std.specs.Ordering.{is_eq, nat_cmp}
 use Rattle.td_tree.specs.Names.{IsName}
 use Rattle.td_types.specs.Types.{Heading, attrs_cmp, pack}
-use Rattle.td_value.specs.Values.{Val, IsTuple, fields_type, pack_fields}
+use Rattle.td_value.specs.Values.{Val, fields_type, pack_fields}
 use Rattle.td_value.specs.code.Views.{tuple_view}
-
--- there are as many names as values, and their entries are those of a tuple
-abbrev pub AreTuple : List (List ℕ) → List Val → Type 0
-AreTuple ns vs = (length ns ≡ length vs) × IsTuple (tuple_view ns vs)
 
 -- whether the entries have the heading
 abbrev pub entries_fit : List (List ℕ) → List Val → Heading → Bool

@@ -1,7 +1,5 @@
 use Rattle.std.proofs.Common.{◌≡◌, ◌++◌, List, map, take}
-use Rattle.std.specs.List.{All}
 use Rattle.std.specs.List.Sorted.{IsPermutation}
-use Rattle.td_value.specs.Values.{IsTuple}
 use Rattle.td_algebra.specs.Columns.{AreColumnsOf, columns_view}
 use Rattle.td_value.specs.code.Views.{values_of}
 use Rattle.td_algebra.specs.code.Layouts.{Sources, placed_tuple}
@@ -10,6 +8,6 @@ use Rattle.td_algebra.proofs.extension.extended_rows.Given as goal
 
 abbrev pub invariant-loop-row : goal.invariant-loop-row
 invariant-loop-row l =
-    ((sources : Sources) (additions : List Addition) → IsPermutation sources l.layout → AreColumnsOf (columns_view l.columns) l.rows additions
-    → l.extended.items ≡ map (λ t. placed_tuple sources (values_of t ++ map (λ (a : Addition). a.value t) additions)) (take l.row l.rows))
-    × All IsTuple l.extended.items
+    (l.extended.0 ≡ l.layout)
+    × ((sources : Sources) (additions : List Addition) → IsPermutation sources l.layout → AreColumnsOf (columns_view l.columns) l.rows additions
+    → l.extended.1 ≡ map (λ t. placed_tuple sources (values_of t ++ map (λ (a : Addition). a.value t) additions)) (take l.row l.rows))

@@ -5,4 +5,5 @@ use Rattle.td_algebra.proofs.joins.pairs_of.Given as goal
 
 abbrev pub invariant-loop-row : goal.invariant-loop-row
 invariant-loop-row l =
-    l.pairs.items ≡ pairs_with (partners_in l.lookup l.places) (pair_tuple l.layout) (take l.row-index l.rows)
+    (l.pairs.0 ≡ l.layout)
+    × (l.pairs.1 ≡ pairs_with (partners_in l.lookup l.places) (pair_tuple l.layout) (take l.row-index l.rows))

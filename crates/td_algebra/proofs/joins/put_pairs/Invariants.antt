@@ -6,6 +6,7 @@ use Rattle.td_algebra.proofs.joins.put_pairs.Given as goal
 
 abbrev pub invariant-loop-partner : goal.invariant-loop-partner
 invariant-loop-partner l =
-    (l.pairs.items ++ map (pair_tuple l.layout l.row) l.partner-iterator
-    ≡ l.fn.pairs.items ++ map (pair_tuple l.layout l.row) (partners_in l.lookup l.places l.row))
-    × All (IsPaired l.layout l.row) l.partner-iterator
+    (l.pairs.0 ≡ l.fn.pairs.0)
+    × (l.pairs.1 ++ map (pair_tuple l.fn.pairs.0 l.row) l.partner-iterator
+    ≡ l.fn.pairs.1 ++ map (pair_tuple l.fn.pairs.0 l.row) (partners_in l.fn.lookup l.fn.places l.fn.row))
+    × All (IsPaired l.fn.pairs.0 l.row) l.partner-iterator

@@ -22,8 +22,8 @@ in_heading rs h =
     let same : length (renamed_attributes rs h) ≡ length h = length-map h (λ a. (new_name rs a.0, a.1)) in
     numbered_in_range 0 (length h) (new_names rs h) (omega arith)
 
-pub tuples-requires : goal.tuples-requires
-tuples-requires c =
+pub laid_rows-requires : goal.laid_rows-requires
+laid_rows-requires c =
     let h = c.heading-3.result.now in
     all_in_range _ c.in_ok-layout.layout h c.rows.result.now c.in_ok-layout.ensures (in_heading c.args.renamings.now h)
     (headed_by _ _ _ _ c.heading-3.ensures c.rows.ensures.rows c.rows.ensures.headed)

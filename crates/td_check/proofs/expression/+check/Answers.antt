@@ -1,4 +1,4 @@
-use Rattle.std.proofs.Common.{◌≡◌, ◌∙◌, ◌∷◌, ◌++◌, [], ℕ, List, Err, ap, map, refl, subst, sym}
+use Rattle.std.proofs.Common.{◌≡◌, ◌∙◌, ◌∷◌, ◌++◌, [], ℕ, arith, List, Err, ap, map, refl, subst, sym}
 use Rattle.std.proofs.lemmas.List.{append-nil}
 use Rattle.std.proofs.lemmas.Result.{err_from_is_err_and}
 use Rattle.std.specs.Global.{Vec}
@@ -11,6 +11,10 @@ use Rattle.td_check.specs.OperatorTypes as own
 use Rattle.td_check.specs.code.PlaceViews.{scope_at, within_all}
 use Rattle.td_check.specs.Scopes.{entered_with}
 use Rattle.td_check.specs.StaticTypes.{items_of, named_types, type_of, types_of, with_items}
+use denote.Param.Weighed.{most}
+use Rattle.td_check.proofs.AlikeLaws.{answers_alike, most_take}
+use Rattle.td_tree.specs.declared.expression.Expr.{Expr}
+use Rattle.td_tree.proofs.expression.Expr.TheLaws.{the_size}
 use Rattle.td_check.proofs.CheckedBindings.{mentioned_behind, one_found, one_refused, typed_behind}
 use Rattle.td_check.proofs.CheckedItems.{held_of_added, held_of_per, in_tuples_of, items_given, items_left, items_refused, nothing_added, operand_and_items, per_after}
 use Rattle.td_check.proofs.CheckedLists.{all_answered, all_named, checked_next, none_checked}
@@ -65,29 +69,42 @@ check-returns-in_ok-check_all-in-Select-clause-names t c =
 
 -- ---- RELATION and TUPLE
 
-pub check-returns-in_err-check_all-in-Relation-clause-ty : goal.check-returns-in_err-check_all-in-Relation-clause-ty
-check-returns-in_err-check_all-in-Relation-clause-ty t c =
-    let p = err_from_is_err_and c.from_residual-in_err-check_all-in-Relation.result c.from_residual-in_err-check_all-in-Relation.ensures.1 in
+pub check_elements-check_all-requires : goal.check_elements-check_all-requires
+check_elements-check_all-requires t c =
+    let size = λ (x : Expr). the_size x in
+    let front = c.but_for_alike.ensures.front in
+    (omega (arith, c.decreases, ap (most size) front.1, most_take size front.0 c.args.elements.now), tt)
+
+pub check_elements-returns : goal.check_elements-returns
+check_elements-returns t c = (trees_view c.but_for_alike.result.now, c.but_for_alike.ensures.enough, c.check_all.ensures.types, c.check_all.ensures.names)
+
+pub check-returns-in_err-check_elements-in-Relation-clause-ty : goal.check-returns-in_err-check_elements-in-Relation-clause-ty
+check-returns-in_err-check_elements-in-Relation-clause-ty t c =
+    let p = err_from_is_err_and c.from_residual-in_err-check_elements-in-Relation.result c.from_residual-in_err-check_elements-in-Relation.ensures.1 in
     let is = ap tree_view c.in-Relation.is ∙ relation_is c.in-Relation.elements ∙ ap (λ xs. trees.relation (trees_view xs)) (sym c.deref-in-Relation.ensures.value) in
+    let found = c.in_err-check_elements-in-Relation.ensures in
     rw (p.1, p.2, is)
-    (answers_still (λ (ts : Vec Ty). map type_view ts.items) type_view _ (types_of (scope_at c.args.place.now) (trees_view c.deref-in-Relation.result.now))
-    own.listed_type c.in_err-check_all-in-Relation.ensures.types)
+    (answers_alike type_view (Err c.in_err-check_elements-in-Relation.field-0.0) _ _ (found.1.listed (scope_at c.args.place.now))
+    (answers_still (λ (ts : Vec Ty). map type_view ts.items) type_view _ (types_of (scope_at c.args.place.now) found.0) own.listed_type found.2))
 
-pub check-returns-in_ok-check_all-in-Relation-clause-ty : goal.check-returns-in_ok-check_all-in-Relation-clause-ty
-check-returns-in_ok-check_all-in-Relation-clause-ty t c =
+pub check-returns-in_ok-check_elements-in-Relation-clause-ty : goal.check-returns-in_ok-check_elements-in-Relation-clause-ty
+check-returns-in_ok-check_elements-in-Relation-clause-ty t c =
     let is = ap tree_view c.in-Relation.is ∙ relation_is c.in-Relation.elements ∙ ap (λ xs. trees.relation (trees_view xs)) (sym c.deref-in-Relation.ensures.value) in
+    let found = c.in_ok-check_elements-in-Relation.ensures in
     rw is
-    (answered_then (λ ts. map type_view ts.items) c.in_ok-check_all-in-Relation.field-0 (types_of (scope_at c.args.place.now) (trees_view c.deref-in-Relation.result.now))
-    own.listed_type type_view c.listed_type.result c.in_ok-check_all-in-Relation.ensures.types
-    (subst (λ ts. Answers type_view c.listed_type.result (own.listed_type (map type_view ts))) c.deref-in-Relation-2.ensures.value c.listed_type.ensures))
+    (answers_alike type_view c.listed_type.result _ _ (found.1.listed (scope_at c.args.place.now))
+    (answered_then (λ ts. map type_view ts.items) c.in_ok-check_elements-in-Relation.field-0 (types_of (scope_at c.args.place.now) found.0)
+    own.listed_type type_view c.listed_type.result found.2
+    (subst (λ ts. Answers type_view c.listed_type.result (own.listed_type (map type_view ts))) c.deref-in-Relation-2.ensures.value c.listed_type.ensures)))
 
-pub check-returns-in_ok-check_all-in-Relation-clause-names : goal.check-returns-in_ok-check_all-in-Relation-clause-names
-check-returns-in_ok-check_all-in-Relation-clause-names t c =
+pub check-returns-in_ok-check_elements-in-Relation-clause-names : goal.check-returns-in_ok-check_elements-in-Relation-clause-names
+check-returns-in_ok-check_elements-in-Relation-clause-names t c =
     let is = ap tree_view c.in-Relation.is ∙ relation_is c.in-Relation.elements ∙ ap (λ xs. trees.relation (trees_view xs)) (sym c.deref-in-Relation.ensures.value) in
-    names_are c.listed_type.result (scope_at c.args.place.now) (tree_view c.args.expr.now) (names_view c.args.seen.now) (names_view c.check_all-in-Relation.new.seen)
-    (relvars_in_all (scope_at c.args.place.now) (trees_view c.deref-in-Relation.result.now)) (types_in_all (trees_view c.deref-in-Relation.result.now))
-    (ap (relvars_in (scope_at c.args.place.now)) is) (ap types_in is)
-    (known_names _ c.listed_type.result c.in_ok-check_all-in-Relation.ensures.names)
+    let found = c.in_ok-check_elements-in-Relation.ensures in
+    names_are c.listed_type.result (scope_at c.args.place.now) (tree_view c.args.expr.now) (names_view c.args.seen.now) (names_view c.check_elements.new.seen)
+    (relvars_in_all (scope_at c.args.place.now) found.0) (types_in_all found.0)
+    (ap (relvars_in (scope_at c.args.place.now)) is ∙ found.1.relvars (scope_at c.args.place.now)) (ap types_in is ∙ found.1.types)
+    (known_names _ c.listed_type.result found.3)
 
 pub check-returns-in_err-check_named-in-Tuple-clause-ty : goal.check-returns-in_err-check_named-in-Tuple-clause-ty
 check-returns-in_err-check_named-in-Tuple-clause-ty t c =
@@ -206,10 +223,11 @@ check-returns-in_ok-add_types_in-in-HeadedRelation-clause-ty t c =
     let is = ap tree_view c.in-HeadedRelation.is ∙ headed_relation_is c.in-HeadedRelation.heading c.in-HeadedRelation.elements ∙ ap (λ xs. trees.headed_relation (heading_tree_view c.in-HeadedRelation.heading.items) (trees_view xs)) (sym c.deref-in-HeadedRelation-2.ensures.value) in
     let gives = subst (λ r. Gives headed_view r (λ parts. own.headed_type parts.0 parts.1) type_view c.type_of_headed.result) c.both-in-HeadedRelation.ensures c.type_of_headed.ensures in
     rw is
-    (headed_typed (heading_meant (scope_at c.args.place.now).types (heading_tree_view c.in-HeadedRelation.heading.items)) (types_of (scope_at c.args.place.now) (trees_view c.deref-in-HeadedRelation-2.result.now)) c.resolve_heading.result c.check_all-elements.result c.type_of_headed.result
+    (answers_alike type_view c.type_of_headed.result _ _ (c.check_elements-elements.ensures.1.headed (scope_at c.args.place.now) (heading_meant (scope_at c.args.place.now).types (heading_tree_view c.in-HeadedRelation.heading.items)))
+    (headed_typed (heading_meant (scope_at c.args.place.now).types (heading_tree_view c.in-HeadedRelation.heading.items)) (types_of (scope_at c.args.place.now) c.check_elements-elements.ensures.0) c.resolve_heading.result c.check_elements-elements.result c.type_of_headed.result
     (subst (Answers (λ h. h) c.resolve_heading.result)
     (λ i. heading_meant (c.types-in-HeadedRelation.ensures i) (heading_tree_view (c.deref-in-HeadedRelation-3.ensures.value i))) c.resolve_heading.ensures)
-    c.check_all-elements.ensures.types gives)
+    c.check_elements-elements.ensures.2 gives))
 
 pub check-returns-in_ok-add_types_in-in-HeadedRelation-clause-names : goal.check-returns-in_ok-add_types_in-in-HeadedRelation-clause-names
 check-returns-in_ok-add_types_in-in-HeadedRelation-clause-names t c =
@@ -217,16 +235,16 @@ check-returns-in_ok-add_types_in-in-HeadedRelation-clause-names t c =
     let gives = subst (λ r. Gives headed_view r (λ parts. own.headed_type parts.0 parts.1) type_view c.type_of_headed.result) c.both-in-HeadedRelation.ensures c.type_of_headed.ensures in
     let named = c.in_ok-add_types_in-in-HeadedRelation.ensures ∙ ap (λ xs. c.args.seen.now.types.items ++ types_named_in (heading_tree_view xs)) c.deref-in-HeadedRelation.ensures.value in
     let n = names_view c.args.seen.now in
-    let l = names_view c.check_all-elements.new.seen in
-    let rs = relvars_in_all (scope_at c.args.place.now) (trees_view c.deref-in-HeadedRelation-2.result.now) in
-    let ts = types_in_all (trees_view c.deref-in-HeadedRelation-2.result.now) in
+    let l = names_view c.check_elements-elements.new.seen in
+    let rs = relvars_in_all (scope_at c.args.place.now) c.check_elements-elements.ensures.0 in
+    let ts = types_in_all c.check_elements-elements.ensures.0 in
     let hs = types_named_in (heading_tree_view c.in-HeadedRelation.heading.items) in
-    names_are c.type_of_headed.result (scope_at c.args.place.now) (tree_view c.args.expr.now) n l rs (hs ++ ts) (ap (relvars_in (scope_at c.args.place.now)) is) (ap types_in is)
-    (names_held headed_view (both_answers c.resolve_heading.result c.check_all-elements.result) (λ parts. own.headed_type parts.0 parts.1) type_view c.type_of_headed.result
+    names_are c.type_of_headed.result (scope_at c.args.place.now) (tree_view c.args.expr.now) n l rs (hs ++ ts) (ap (relvars_in (scope_at c.args.place.now)) is ∙ c.check_elements-elements.ensures.1.relvars (scope_at c.args.place.now)) (ap types_in is ∙ ap (λ xs. hs ++ xs) c.check_elements-elements.ensures.1.types)
+    (names_held headed_view (both_answers c.resolve_heading.result c.check_elements-elements.result) (λ parts. own.headed_type parts.0 parts.1) type_view c.type_of_headed.result
     n l rs (hs ++ ts) gives
-    (names_of_both c.resolve_heading.result c.check_all-elements.result n (c.args.seen.now.relvars.items, c.add_types_in.new.types.items) l [] hs rs ts
+    (names_of_both c.resolve_heading.result c.check_elements-elements.result n (c.args.seen.now.relvars.items, c.add_types_in.new.types.items) l [] hs rs ts
     (known_names _ c.resolve_heading.result (λ i. (sym (append-nil c.args.seen.now.relvars.items) i, named i)))
-    c.check_all-elements.ensures.names))
+    c.check_elements-elements.ensures.3))
 
 -- ---- EXTEND
 

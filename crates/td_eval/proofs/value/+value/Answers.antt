@@ -1,4 +1,4 @@
-use Rattle.std.specs.Prelude.{max, true}
+use Rattle.std.specs.Prelude.{IfSome, max, true}
 use Rattle.std.proofs.Common.{◌≡◌, ◌∙◌, ◌+◌, [], ◌∷◌, ℕ, Err, List, ap, arith, map, option_map, refl, reverse, subst, sym, take}
 use Rattle.std.proofs.lemmas.List.{reverse-append}
 use Rattle.std.proofs.lemmas.Result.{err_from_is_err_and}
@@ -12,6 +12,7 @@ use Rattle.td_check.proofs.Gives.{answered_then}
 use Rattle.td_check.specs.OperatorTypes.{are_types_of}
 use Rattle.td_check.specs.Scopes.{entered_with}
 use Rattle.td_check.specs.StaticTypes.{named_types}
+use Rattle.td_eval.proofs.code_lemmas.HeadedElements.{heading_given, heading_refused}
 use Rattle.td_eval.proofs.code_lemmas.Measures.{constraint_height, height_if, height_item, height_listed, height_named, weight, weight_before, tree_before}
 use Rattle.td_eval.proofs.code_lemmas.Selectors.{is_selector, never_missing, types_seen}
 use Rattle.td_eval.proofs.code_lemmas.VirtualValues.{held_seen}
@@ -27,8 +28,9 @@ use Rattle.td_eval.proofs.code_lemmas.WalkedTotals.{group_found, terms_given, to
 use Rattle.td_check.proofs.BothAnswers.{both_given, both_refused}
 use Rattle.td_eval.specs.AggregateValues.{aggregated_value, asked_of, summarized_value, summary_attributes, summary_value}
 use Rattle.td_eval.specs.DatabaseWorlds.{constraint_value, world_of_types}
+use Rattle.td_eval.specs.code.FixedValues.{AreFixed}
 use Rattle.td_eval.specs.code.NewColumns.{column_view, named_columns}
-use Rattle.td_eval.specs.OperatorValues.{column_values, component_value, extended_by_settings, extended_value, listed_value, on_relation, postfix_value, restricted_value, truth_value, tuple_from, value_of_type}
+use Rattle.td_eval.specs.OperatorValues.{column_values, component_value, extended_by_settings, extended_value, on_relation, postfix_value, restricted_value, truth_value, tuple_from, value_of_type}
 use Rattle.td_eval.specs.code.Sights.{seen_by, virtuals_of}
 use Rattle.td_eval.specs.code.Totals.{term_in, total_of, total_view}
 use Rattle.td_eval.specs.TreeValues.{argument_values, entry_values, items_in_tuples, value_of, value_where_bound, values_in_tuples}
@@ -46,7 +48,7 @@ use Rattle.td_types.specs.Types.{Heading}
 use Rattle.td_types.specs.code.Views.{pairs_view, type_view}
 use Rattle.td_types.proofs.OutcomeLaws.{valued_is}
 use Rattle.td_types.proofs.Resolutions.{answers_still}
-use Rattle.td_value.specs.Values.{Tuple, Val, boolean, type_of}
+use Rattle.td_value.specs.Values.{Tuple, Val, boolean, tuple_value, type_of}
 use Rattle.td_eval.proofs.value.+value.Goals as goal
 
 -- ---- lists
@@ -139,8 +141,8 @@ value_of-values_of-requires g t c =
       (o, c.requires),
     )
 
-pub value_of-values_of-requires-in-Relation : goal.value_of-values_of-requires-in-Relation
-value_of-values_of-requires-in-Relation g t c =
+pub value_of-listed_elements-requires : goal.value_of-listed_elements-requires
+value_of-listed_elements-requires g t c =
     λ κs o. (
       (let h = ap height (ap tree_view c.in-Relation.is ∙ relation_is c.in-Relation.elements ∙ ap (λ xs. trees.relation (trees_view xs)) (sym c.deref-in-Relation.ensures.value)) in omega (arith, c.decreases, h)),
       (o, c.requires),
@@ -153,10 +155,10 @@ value_of-entries-requires g t c =
       (o, c.requires),
     )
 
-pub value_of-values_of-elements-requires : goal.value_of-values_of-elements-requires
-value_of-values_of-elements-requires g t c =
+pub value_of-headed_elements-requires : goal.value_of-headed_elements-requires
+value_of-headed_elements-requires g t c =
     λ κs o. (
-      (let h = ap height (ap tree_view c.in-HeadedRelation.is ∙ headed_relation_is c.in-HeadedRelation.heading c.in-HeadedRelation.elements ∙ ap (λ xs. trees.headed_relation (heading_tree_view c.in-HeadedRelation.heading.items) (trees_view xs)) (sym c.deref-in-HeadedRelation.ensures.value)) in let low = le-max_right (type_height (trees.relation_type (heading_tree_view c.in-HeadedRelation.heading.items))) (highest (trees_view c.deref-in-HeadedRelation.result.now)) in omega (arith, c.decreases, h, low)),
+      (let h = ap height (ap tree_view c.in-HeadedRelation.is ∙ headed_relation_is c.in-HeadedRelation.heading c.in-HeadedRelation.elements ∙ ap (λ xs. trees.headed_relation (heading_tree_view c.in-HeadedRelation.heading.items) (trees_view xs)) (sym c.deref-in-HeadedRelation-2.ensures.value)) in let low = le-max_right (type_height (trees.relation_type (heading_tree_view c.in-HeadedRelation.heading.items))) (highest (trees_view c.deref-in-HeadedRelation-2.result.now)) in omega (arith, c.decreases, h, low)),
       (o, c.requires),
     )
 
@@ -273,18 +275,10 @@ value_of-returns-in_ok-values_of-in-Select g t c =
     rw is
     (answered_then (λ vs. vs.items) c.in_ok-values_of-in-Select.field-0 (argument_values (seen_by c.args.sight.now) (reverse c.args.tuples.now) (trees_view c.deref-in-Select.result.now)) (selector_outcome (seen_by c.args.sight.now) c.in-Select.ty) (λ v. v) c.selector_outcome.result c.in_ok-values_of-in-Select.ensures c.selector_outcome.ensures)
 
-pub value_of-returns-in_err-values_of-in-Relation : goal.value_of-returns-in_err-values_of-in-Relation
-value_of-returns-in_err-values_of-in-Relation g t c =
-    let p = err_from_is_err_and c.from_residual-in_err-values_of-in-Relation.result c.from_residual-in_err-values_of-in-Relation.ensures.1 in
+pub value_of-returns-in-Relation : goal.value_of-returns-in-Relation
+value_of-returns-in-Relation g t c =
     let is = ap tree_view c.in-Relation.is ∙ relation_is c.in-Relation.elements ∙ ap (λ xs. trees.relation (trees_view xs)) (sym c.deref-in-Relation.ensures.value) in
-    rw (p.1, p.2, is)
-    (answers_still (λ (vs : Vec Val). vs.items) (λ (v : Val). v) _ (argument_values (seen_by c.args.sight.now) (reverse c.args.tuples.now) (trees_view c.deref-in-Relation.result.now)) listed_value c.in_err-values_of-in-Relation.ensures)
-
-pub value_of-returns-in_ok-values_of-in-Relation : goal.value_of-returns-in_ok-values_of-in-Relation
-value_of-returns-in_ok-values_of-in-Relation g t c =
-    let is = ap tree_view c.in-Relation.is ∙ relation_is c.in-Relation.elements ∙ ap (λ xs. trees.relation (trees_view xs)) (sym c.deref-in-Relation.ensures.value) in
-    rw is
-    (answered_then (λ vs. vs.items) c.in_ok-values_of-in-Relation.field-0 (argument_values (seen_by c.args.sight.now) (reverse c.args.tuples.now) (trees_view c.deref-in-Relation.result.now)) listed_value (λ v. v) c.listed_value.result c.in_ok-values_of-in-Relation.ensures c.listed_value.ensures)
+    rw is c.listed_elements.ensures
 
 pub value_of-returns-in_err-entries-in-Tuple : goal.value_of-returns-in_err-entries-in-Tuple
 value_of-returns-in_err-entries-in-Tuple g t c =
@@ -301,12 +295,32 @@ value_of-returns-in_ok-entries-in-Tuple g t c =
 
 pub value_of-returns-in-HeadedRelation : goal.value_of-returns-in-HeadedRelation
 value_of-returns-in-HeadedRelation g t c =
-    let is = ap tree_view c.in-HeadedRelation.is ∙ headed_relation_is c.in-HeadedRelation.heading c.in-HeadedRelation.elements ∙ ap (λ xs. trees.headed_relation (heading_tree_view c.in-HeadedRelation.heading.items) (trees_view xs)) (sym c.deref-in-HeadedRelation.ensures.value) in
-    rw is
-    (c.value_of_headed.ensures (heading_meant (seen_by c.args.sight.now).scope.types (heading_tree_view c.in-HeadedRelation.heading.items)) (argument_values (seen_by c.args.sight.now) (reverse c.args.tuples.now) (trees_view c.deref-in-HeadedRelation.result.now))
-    (subst (Answers (λ h. h) c.resolve_heading.result)
-    (λ i. heading_meant (sym (types_seen c.args.sight.now c.requires) i) (heading_tree_view (c.deref-in-HeadedRelation-2.ensures.value i))) c.resolve_heading.ensures)
-    c.values_of-elements.ensures)
+    let is = ap tree_view c.in-HeadedRelation.is ∙ headed_relation_is c.in-HeadedRelation.heading c.in-HeadedRelation.elements
+    ∙ (λ i. trees.headed_relation (heading_tree_view (sym c.deref-in-HeadedRelation.ensures.value i)) (trees_view (sym c.deref-in-HeadedRelation-2.ensures.value i))) in
+    rw is c.headed_elements.ensures
+
+pub elements::headed_elements-returns-in_err-heading-in-Some : goal.elements::headed_elements-returns-in_err-heading-in-Some
+elements::headed_elements-returns-in_err-heading-in-Some g t c =
+    let p = err_from_is_err_and c.from_residual-in_err-heading-in-Some.result c.from_residual-in_err-heading-in-Some.ensures.1 in
+    rw (p.1, p.2)
+    (heading_refused (seen_by c.args.sight.now) (reverse c.args.tuples.now) (trees_view c.args.elements.now) c.in-Some.flat.items
+    (subst (λ o. IfSome o (λ (ts : Vec Tuple). AreFixed (trees_view c.args.elements.now) (map tuple_value ts.items))) c.in-Some.is c.in_ok-flat.ensures) _ _
+    (λ i. heading_meant (sym (types_seen c.args.sight.now c.requires) i) (heading_tree_view c.args.heading.now)) _ c.in_err-heading-in-Some.ensures)
+
+pub elements::headed_elements-returns-in_ok-heading-in-Some : goal.elements::headed_elements-returns-in_ok-heading-in-Some
+elements::headed_elements-returns-in_ok-heading-in-Some g t c =
+    heading_given (seen_by c.args.sight.now) (reverse c.args.tuples.now) (trees_view c.args.elements.now) c.in-Some.flat.items
+    (subst (λ o. IfSome o (λ (ts : Vec Tuple). AreFixed (trees_view c.args.elements.now) (map tuple_value ts.items))) c.in-Some.is c.in_ok-flat.ensures) _ _
+    (λ i. heading_meant (sym (types_seen c.args.sight.now c.requires) i) (heading_tree_view c.args.heading.now)) c.in_ok-heading-in-Some.field-0 c.headed_tuples.result
+    c.in_ok-heading-in-Some.ensures c.headed_tuples.ensures
+
+pub elements::headed_elements-returns-in-None : goal.elements::headed_elements-returns-in-None
+elements::headed_elements-returns-in-None g t c =
+    c.value_of_headed.ensures (heading_meant (seen_by c.args.sight.now).scope.types (heading_tree_view c.args.heading.now))
+    (argument_values (seen_by c.args.sight.now) (reverse c.args.tuples.now) (trees_view c.args.elements.now))
+    (subst (Answers (λ h. h) c.resolve_heading-heading.result)
+    (λ i. heading_meant (sym (types_seen c.args.sight.now c.requires) i) (heading_tree_view c.args.heading.now)) c.resolve_heading-heading.ensures)
+    c.values_of.ensures
 
 -- ---- over tuples
 

@@ -81,6 +81,12 @@ decreases-value_of g l = weight l.sight.now + 8 * height (tree_view l.expr.now)
 abbrev pub decreases-values_of : goal.decreases-values_of
 decreases-values_of g l = weight l.sight.now + (8 * highest (trees_view l.exprs.now) + 1)
 
+abbrev pub decreases-elements::listed_elements : goal.decreases-elements::listed_elements
+decreases-elements::listed_elements g l = weight l.sight.now + (8 * highest (trees_view l.elements.now) + 2)
+
+abbrev pub decreases-elements::headed_elements : goal.decreases-elements::headed_elements
+decreases-elements::headed_elements g l = weight l.sight.now + (8 * highest (trees_view l.elements.now) + 2)
+
 abbrev pub decreases-entries : goal.decreases-entries
 decreases-entries g l = weight l.sight.now + (8 * highest_named (named_view l.parts.now) + 1)
 

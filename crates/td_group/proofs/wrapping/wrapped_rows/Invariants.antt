@@ -1,7 +1,12 @@
 use Rattle.std.proofs.Common.{◌≡◌, ◌∷◌, ◌++◌, [], map, take}
-use Rattle.td_value.specs.Values.{projected_tuple, tuple_of, tuple_value}
+use Rattle.std.specs.List.Sorted.{IsPermutation}
+use Rattle.td_value.specs.Values.{Tuple, tuple_value}
+use Rattle.td_value.specs.code.Views.{values_of}
+use Rattle.td_algebra.specs.code.Layouts.{Sources, placed_tuple}
 use Rattle.td_group.proofs.wrapping.wrapped_rows.Given as goal
 
-abbrev pub invariant-loop-row : goal.invariant-loop-row
-invariant-loop-row l =
-    l.wrapped.items ≡ map (λ t. tuple_of (projected_tuple l.rest t ++ (l.name, tuple_value (projected_tuple l.names t)) ∷ [])) (take l.row-index l.rows)
+abbrev pub invariant-loop-index : goal.invariant-loop-index
+invariant-loop-index l =
+    (l.wrapped.0 ≡ l.layout)
+    × ((sources : Sources) (part : Tuple → Tuple) → IsPermutation sources l.layout → l.parts ≡ map part l.rows
+    → l.wrapped.1 ≡ map (λ t. placed_tuple sources (values_of t ++ tuple_value (part t) ∷ [])) (take l.index l.rows))

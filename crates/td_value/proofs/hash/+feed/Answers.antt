@@ -1,11 +1,14 @@
-use Rattle.std.proofs.Common.{◌∙◌, ap, sym, fold}
-use Rattle.td_value.specs.Hashes.{fed_parts, fed_tuple}
+use Rattle.std.proofs.Common.{◌∙◌, ap, sym, fold, arith}
+use Rattle.td_value.specs.Hashes.{fed_parts}
 use Rattle.td_value.specs.Values.{pack_parts}
-use Rattle.td_value.proofs.Zips.{fed_by_values}
+use Rattle.td_value.proofs.Falls.{values_fall}
+use Rattle.td_value.proofs.Own.{fed_by_own_values}
 use Rattle.td_value.proofs.hash.+feed.Goals as goal
+
+pub feed_tuple-feed_parts-requires : goal.feed_tuple-feed_parts-requires
+feed_tuple-feed_parts-requires g t c = λ κs lives. (omega (arith, c.decreases, values_fall c.args.t.now c.values.result.now c.values.ensures.values), lives)
 
 pub feed_tuple-returns : goal.feed_tuple-returns
 feed_tuple-returns g t c =
-    let inside = c.t.inside in
     c.feed_parts.ensures ∙ ap (fold g.H.Hasher.write c.args.state.now)
-    (ap (λ vs. fed_parts (pack_parts vs)) (c.deref-2.ensures.value ∙ ap (λ v. v.items) c.deref.ensures) ∙ sym (fed_by_values inside.names.value.items inside.values.value.items c.t.invariant.0) ∙ ap fed_tuple c.t.view_is)
+    (ap (λ vs. fed_parts (pack_parts vs)) c.values.ensures.values ∙ sym (fed_by_own_values c.args.t.now))

@@ -10,6 +10,8 @@ use Rattle.td_types.specs.Headings.{has_attribute, with_attribute}
 use Rattle.td_value.specs.Values.{Val, IsTuple, heading_of, tuple_names, type_of}
 use Rattle.td_value.specs.code.ValueCode.{unpack_pack_fields}
 use Rattle.td_value.specs.code.Views.{tuple_view, node_view}
+use Rattle.td_value.proofs.Falls.{values_fall}
+use Rattle.td_value.proofs.Own.{as_many_lent, own_entries}
 use Rattle.td_value.proofs.Zips.{zip_names}
 use Rattle.td_value.proofs.HeadingOf.{fields_type-heading, heading_lacks, heading_more}
 use Rattle.td_value.proofs.types.+find.Goals as goal
@@ -41,3 +43,15 @@ pub find_type-returns-in_ok-find_heading-in-Tup : goal.find_type-returns-in_ok-f
 find_type-returns-in_ok-find_heading-in-Tup t c =
     ap (λ h. types.tuple (pack h)) (c.in_ok-find_heading-in-Tup.ensures ∙ ap heading_of c.deref-in-Tup.ensures)
     ∙ ap types.tuple (sym (fields_type-heading c.in-Tup.t.value)) ∙ ap type_of (sym (ap node_view c.in-Tup.is) ∙ c.v.view_is)
+
+pub find_heading-entries_heading-requires : goal.find_heading-entries_heading-requires
+find_heading-entries_heading-requires t c =
+    let own = own_entries c.args.t.now c.names.result.now c.values.result.now c.names.ensures.names c.values.ensures.values in (
+      omega (arith, c.decreases, values_fall c.args.t.now c.values.result.now c.values.ensures.values),
+      (as_many_lent c.args.t.now _ _ c.names.ensures.names c.values.ensures.values, subst IsTuple (sym own) c.values.ensures.valid),
+    )
+
+pub find_heading-returns : goal.find_heading-returns
+find_heading-returns t c =
+    let own = own_entries c.args.t.now c.names.result.now c.values.result.now c.names.ensures.names c.values.ensures.values in
+    rw own at c.entries_heading.ensures

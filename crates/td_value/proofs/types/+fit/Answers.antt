@@ -2,11 +2,13 @@ use Rattle.std.proofs.Common.{◌≡◌, ◌∙◌, ap, sym, refl, subst, arith,
 use Rattle.std.specs.Prelude.{◌&&◌, not, is_none, is_some, option_map}
 use Rattle.std.specs.Ordering.{eq_by_cmp, is_eq, nat_cmp}
 use Rattle.std.specs.Cmp.Lexicographic.{slice_cmp, texts_ties}
-use Rattle.td_types.specs.Types.{type_cmp}
+use Rattle.td_types.specs.Types.{attrs_cmp, pack, type_cmp}
 use Rattle.td_types.specs.code.Views as heads
-use Rattle.td_value.specs.Values.{type_of}
+use Rattle.td_value.specs.Values.{fields_type, pack_fields, type_of}
 use Rattle.td_value.specs.code.Views.{node_view}
+use Rattle.td_value.proofs.Falls.{values_fall}
 use Rattle.td_value.proofs.Headed.{fits_more, fits_short, fits_end}
+use Rattle.td_value.proofs.Own.{as_many_lent, own_entries}
 use Rattle.td_value.proofs.types.+fit.Goals as goal
 
 differs : (b : Bool) → not b ≡ true → b ≡ false
@@ -66,3 +68,14 @@ entries_have_heading-returns t c =
     none_mapped _ c.at-2.result c.is_none.result c.is_none.ensures ∙ ap is_none c.at-2.ensures.attribute
     ∙ sym (fits_end c.args.names.now c.args.values.now c.args.heading.now c.loop-v.place c.requires (omega (arith, c.loop-v.invariant.0, c.loop-v-test.false)))
     ∙ c.loop-v.invariant.1
+
+pub tuple_has_heading-entries_have_heading-requires : goal.tuple_has_heading-entries_have_heading-requires
+tuple_has_heading-entries_have_heading-requires t c = (
+  omega (arith, c.decreases, values_fall c.args.t.now c.values.result.now c.values.ensures.values),
+  as_many_lent c.args.t.now _ _ c.names.ensures.names c.values.ensures.values,
+)
+
+pub tuple_has_heading-returns : goal.tuple_has_heading-returns
+tuple_has_heading-returns t c =
+    let own = own_entries c.args.t.now c.names.result.now c.values.result.now c.names.ensures.names c.values.ensures.values in
+    c.entries_have_heading.ensures ∙ ap (λ u. is_eq (attrs_cmp (fields_type (pack_fields u)) (pack c.args.heading.now))) own

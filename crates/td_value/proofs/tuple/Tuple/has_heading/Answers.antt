@@ -1,16 +1,16 @@
-use Rattle.std.proofs.Common.{◌∙◌, ap, sym, subst}
+use Rattle.std.proofs.Common.{◌∙◌, ap, sym}
 use Rattle.std.specs.Ordering.{is_eq}
 use Rattle.td_types.specs.Types.{attrs_cmp}
 use Rattle.td_value.proofs.HeadingOf.{fields_type-heading}
 use Rattle.td_types.specs.Types.{pack}
-use Rattle.td_value.specs.Values.{IsTuple, fields_type, pack_fields}
+use Rattle.td_value.specs.Values.{fields_type, pack_fields}
 use Rattle.td_value.proofs.Headed.{headings_tie}
 use Rattle.td_value.proofs.Rows.{IsTupleOf-from}
 use Rattle.td_value.proofs.tuple.Tuple.has_heading.Goals as goal
 
 pub returns-clause-fits : goal.returns-clause-fits
 returns-clause-fits c =
-    let valid = subst IsTuple c.self.view_is c.self.invariant.1 in
+    let valid = c.reveal.ensures in
     let tie = headings_tie (fields_type (pack_fields c.args.self.now)) (pack c.args.heading.now) in (
       λ e. IsTupleOf-from c.args.heading.now c.args.self.now valid (tie.0 (sym c.tuple_has_heading.ensures ∙ e)),
       λ p. c.tuple_has_heading.ensures ∙ tie.1 (fields_type-heading c.args.self.now ∙ ap pack p.1),

@@ -1,8 +1,0 @@
-use Rattle.std.proofs.Common.{◌≡◌, map, take}
-use Rattle.std.specs.List.Sorted.{IsPermutation}
-use Rattle.td_value.specs.code.Views.{values_of}
-use Rattle.td_algebra.specs.code.Layouts.{Sources, placed_tuple}
-use Rattle.td_algebra.proofs.layout.Layout.tuples.Given as goal
-
-abbrev pub invariant-loop-row : goal.invariant-loop-row
-invariant-loop-row l = (sources : Sources) → IsPermutation sources l.self → l.tuples.items ≡ map (λ t. placed_tuple sources (values_of t)) (take l.row-index l.rows)

@@ -1,0 +1,90 @@
+//! Literals and tuples that are expressions by themselves.
+ghost use Rattle.std.specs.Prelude.{◌≡◌, IfOk, Some, option_map};
+ghost use Rattle.td_parse.specs.code.Lone as lone;
+ghost use Rattle.td_parse.specs.code.Parsing.{Tries, seen_as};
+ghost use Rattle.td_tree.specs.Numbers.{decimal_value};
+ghost use Rattle.td_tree.specs.Pieces.{kind_of};
+ghost use Rattle.td_tree.specs.Symbols.{symbols};
+ghost use Rattle.td_tree.specs.code.TreeViews.{literal_view};
+
+use crate::ahead::Ahead;
+use crate::cursor::Cursor;
+use crate::word::{number_of, text_of};
+use std::alloc::{AllocError, Global};
+use td_tree::expression::{Literal, MAX_MAGNITUDE};
+use td_tree::keyword::Keyword;
+use td_tree::token::{Kind, Sign};
+
+/// Whether a sign comes next that ends an expression among others.
+#[tactic(auto, unfolding(crate::specs::code::Lone::end_at))]
+pub fn ends(tokens: &Ahead<'_, '_>) -> bool
+    ensures { result ≡ lone.end_at tokens.now }
+{
+    match tokens.again().take() {
+        Some((Kind::Sign(sign), _)) => matches!(
+            sign,
+            Sign::Comma | Sign::CloseParenthesis | Sign::CloseBrace
+        ),
+        _ => false,
+    }
+}
+
+/// A number that a literal spells, after a minus or not.
+pub fn number_literal(minus: bool, text: &[u8]) -> Option<Literal>
+    requires { kind_of (symbols text.now) ≡ Some Kind.Number }
+    ensures { option_map literal_view result
+        ≡ lone.number_literal minus (decimal_value text.now) }
+{
+    let magnitude = number_of(text)?;
+    if magnitude == MAX_MAGNITUDE && !minus {
+        return None;
+    }
+    Some(Literal::Number { minus, magnitude })
+}
+
+/// The literal that is this token.
+fn literal_of(alloc: Global, kind: Kind, text: &[u8]) -> Result<Option<Literal>, AllocError>
+    requires { kind_of (symbols text.now) ≡ Some kind }
+    ensures { IfOk result
+        (λ l. option_map literal_view l ≡ lone.literal_of (seen_as kind text.now)) }
+{
+    match kind {
+        Kind::Number => Ok(number_literal(false, text)),
+        Kind::Text => Ok(Some(Literal::Text(text_of(alloc, text)?))),
+        Kind::Reserved(Keyword::True) => Ok(Some(Literal::Truth(true))),
+        Kind::Reserved(Keyword::False) => Ok(Some(Literal::Truth(false))),
+        _ => Ok(None),
+    }
+}
+
+/// Takes a literal, if it comes next and what stands behind it ends it.
+#[tactic(auto, unfolding(crate::specs::code::Lone::lone_literal))]
+pub fn lone_literal(
+    alloc: Global,
+    tokens: &mut Cursor<'_, '_>,
+) -> Result<Option<Literal>, AllocError>
+    ensures { IfOk result (λ l. Tries (option_map literal_view l) tokens.old tokens.new
+        (lone.lone_literal tokens.old)) }
+{
+    let mut ahead = tokens.ahead();
+    let Some((kind, text)) = ahead.take() else {
+        return Ok(None);
+    };
+    if !ends(&ahead) {
+        return Ok(None);
+    }
+    let Some(literal) = literal_of(alloc, kind, text)? else {
+        return Ok(None);
+    };
+    tokens.go_to(ahead);
+    Ok(Some(literal))
+}
+
+/// Whether `TUPLE {` comes next.
+#[tactic(auto, unfolding(crate::specs::code::Lone::tuple_at))]
+pub fn opens_tuple(tokens: &Cursor<'_, '_>) -> bool
+    ensures { result ≡ lone.tuple_at tokens.now }
+{
+    let mut ahead = tokens.ahead();
+    ahead.keyword(Keyword::Tuple) && ahead.sign(Sign::OpenBrace)
+}

@@ -1,0 +1,14 @@
+use Rattle.std.proofs.Common.{◌∙◌, ap}
+use Rattle.std.proofs.lemmas.List.{take_all}
+use Rattle.td_value.specs.Sets.{has}
+use Rattle.td_value.specs.Values.{tuple_cmp}
+use Rattle.td_plan.proofs.Memberships.{one_hashed}
+use Rattle.td_plan.proofs.running.memberships.hashed.Goals as goal
+
+pub loop-row-preserved : goal.loop-row-preserved
+loop-row-preserved c =
+    one_hashed c.loop-row.set c.insert.new.self c.in_ok-try_clone.field-0 c.args.rows.now c.loop-row.row-index c.row-item.result c.in_ok-try_clone.ensures
+    c.loop-row-test.true c.row-item.is c.in_ok-insert.ensures.updates.0 c.loop-row.invariant
+
+pub returns : goal.returns
+returns c = λ t. c.loop-row.invariant t ∙ ap (has tuple_cmp t) (take_all c.loop-row.row-index c.args.rows.now c.loop-row-test.false)

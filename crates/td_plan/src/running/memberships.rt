@@ -1,0 +1,242 @@
+//! IN a relation that is the same for all tuples of a loop: its tuples are hashed once.
+ghost use Rattle.std.specs.Prelude.{◌≡◌, IfOk, IfSome, IsTrue, List};
+ghost use Rattle.std.specs.HashSet.{contains};
+ghost use Rattle.std.specs.List.Sorted.{IsPermutation};
+ghost use Rattle.std.specs.Ordering.{eq_by_cmp};
+ghost use Rattle.td_algebra.specs.code.Layouts.{numbered_sources};
+ghost use Rattle.td_eval.specs.OperatorValues.{comparison_value};
+ghost use Rattle.td_eval.specs.Worlds.{World};
+ghost use Rattle.td_plan.specs.code.Hands.{slots_of};
+ghost use Rattle.td_plan.specs.code.Memberships.{IsPutInHand, tuple_inside};
+ghost use Rattle.td_plan.specs.code.Memos.{AreSound, IsMemo, IsSound, Parts};
+ghost use Rattle.td_plan.specs.code.Quick.{AreInRows, AreQuick, IsQuick};
+ghost use Rattle.td_plan.specs.code.QuickInside.{AreQuickInside, IsMemoInside, value_inside};
+ghost use Rattle.td_plan.specs.code.Runs.{step_values};
+ghost use Rattle.td_plan.specs.declared.running.hand.Inside.{Inside};
+ghost use Rattle.td_tree.specs.declared.operator.Comparison.TheVariants as comparisons;
+ghost use Rattle.td_tree.specs.Outcomes.{Outcome, Valued, gathered, with_both, with_value};
+ghost use Rattle.td_types.specs.Headings.{are_distinct};
+ghost use Rattle.td_value.specs.Sets.{has};
+ghost use Rattle.td_value.specs.Values.{Tuple, Val, boolean, relation_value, tuple_cmp};
+ghost use Rattle.td_value.specs.Values.{tuple_value};
+
+use crate::plan::step::{Dyadic, Selector, Step};
+use crate::running::hand::{Hand, Inside, hand_inside};
+use crate::running::memo::{Memo, lent_answer};
+use crate::running::quick::quick_value;
+use std::alloc::{AllocError, Global};
+use std::collections::HashSet;
+use td_algebra::laid_out::LaidOut;
+use td_algebra::layout::Layout;
+use td_eval::flat::layout_of;
+use td_tree::name::Name;
+use td_tree::operator::Comparison;
+use td_value::relation::Rel;
+use td_value::tuple::{Tuple, have_heading};
+use td_value::value::{Node, Value};
+
+/// The value of a step that is a constant or a part whose answer is kept: it is the same in all
+/// tuples of a loop.
+fn common_value<'m>(memo: &'m Memo, step: &'m Step) -> Option<&'m Value>
+    ensures { (ps : Parts) (w : World) (inside : Inside) (t : Tuple) → IsSound ps step.now
+        → IsMemoInside ps w inside memo.now
+        → IsQuick (λ v. v.now) result (value_inside w inside step.now t) }
+{
+    match step {
+        Step::Constant(value) => Some(value),
+        Step::Once {
+            place,
+            reach: _,
+            part: _,
+        } => lent_answer(memo, *place),
+        _ => None,
+    }
+}
+
+/// Puts the values of the parts into the list, in place of what is there. Answers whether all were
+/// found without causes.
+fn put_parts(
+    memo: &Memo,
+    hand: &Hand<'_, '_>,
+    parts: &[Step],
+    row: &mut Vec<Value>,
+) -> Result<bool, AllocError>
+    ensures { IfOk result (λ b. IsTrue b → (ps : Parts) (w : World) → AreSound ps parts.now
+        → IsMemo ps w (slots_of hand.now) memo.now
+        → gathered (step_values w (slots_of hand.now) parts.now) ≡ Valued row.new.items) }
+{
+    row.clear();
+    for part in parts {
+        let Some(value) = quick_value(memo, hand, part) else {
+            return Ok(false);
+        };
+        row.push(value.try_clone()?)?;
+    }
+    Ok(true)
+}
+
+/// Puts after the others the tuple that gives the names the values of the parts. Answers whether
+/// these were found without causes. The row is a list in which they are put together.
+fn put_tuple(
+    memo: &Memo,
+    hand: &Hand<'_, '_>,
+    names: &[Name],
+    parts: &[Step],
+    row: &mut Vec<Value>,
+    laid: &mut LaidOut<'_>,
+) -> Result<bool, AllocError>
+    requires distinct { IsTrue (are_distinct names.now) }
+    requires places { IsPermutation (numbered_sources 0 names.now) laid.old.0 }
+    ensures layout { IfOk result (λ b. IsTrue b → laid.new.0 ≡ laid.old.0) }
+    ensures put { IfOk result (λ b. IsTrue b → IsPutInHand memo.now (slots_of hand.now) names.now
+        parts.now laid.old.1 laid.new.1) }
+{
+    if !put_parts(memo, hand, parts, row)? {
+        return Ok(false);
+    }
+    if row.len() != names.len() {
+        return Ok(false);
+    }
+    laid.put(row, &[])?;
+    Ok(true)
+}
+
+/// The tuples that give the names the values of the parts in each of the rows.
+fn tuples_of(
+    alloc: Global,
+    memo: &Memo,
+    inside: &Inside,
+    rows: &[Tuple],
+    names: &[Name],
+    parts: &[Step],
+    layout: &Layout,
+) -> Result<Option<Vec<Tuple>>, AllocError>
+    requires distinct { IsTrue (are_distinct names.now) }
+    requires places { IsPermutation (numbered_sources 0 names.now) layout.now }
+    ensures { IfOk result (λ found. (ps : Parts) (w : World) → AreSound ps parts.now
+        → IsMemoInside ps w inside.now memo.now
+        → AreQuick tuple_value (tuple_inside w inside.now names.now parts.now) rows.now found) }
+{
+    let mut laid = LaidOut::new(alloc, layout, rows.len())?;
+    let mut values = Vec::with_capacity(alloc, names.len())?;
+    for row in rows {
+        let hand = hand_inside(inside, row);
+        if !put_tuple(memo, &hand, names, parts, &mut values, &mut laid)? {
+            return Ok(None);
+        }
+    }
+    Ok(Some(laid.finish(alloc)?))
+}
+
+/// The tuples, hashed.
+fn hashed(alloc: Global, rows: &[Tuple]) -> Result<HashSet<Tuple>, AllocError>
+    ensures { IfOk result (λ set. (t : Tuple)
+        → contains (eq_by_cmp tuple_cmp) set t ≡ has tuple_cmp t rows.now) }
+{
+    let mut set = HashSet::with_capacity(alloc, rows.len())?;
+    for row in rows {
+        set.insert(row.try_clone()?)?;
+    }
+    Ok(set)
+}
+
+/// Which of the tuples are members of the relation, if all are of its heading.
+fn members_among(
+    alloc: Global,
+    tuples: &[Tuple],
+    rel: &Rel,
+) -> Result<Option<Vec<bool>>, AllocError>
+    ensures { IfOk result (λ found. (f : Tuple → Outcome Val) (ts : List Tuple)
+        → AreInRows tuple_value f ts tuples.now
+        → AreQuick boolean (λ t. with_value (f t)
+        (λ v. comparison_value comparisons.In v (relation_value rel.now))) ts found) }
+{
+    if !have_heading(tuples, rel.heading()) {
+        return Ok(None);
+    }
+    let members = hashed(alloc, rel.rows())?;
+    let mut truths = Vec::with_capacity(alloc, tuples.len())?;
+    for tuple in tuples {
+        truths.push(members.contains(tuple))?;
+    }
+    Ok(Some(truths))
+}
+
+/// The truth values of IN the relation, for the tuples that give the names the values of the parts
+/// in each of the rows.
+fn memberships_of(
+    alloc: Global,
+    memo: &Memo,
+    inside: &Inside,
+    rows: &[Tuple],
+    names: &[Name],
+    parts: &[Step],
+    rel: &Rel,
+) -> Result<Option<Vec<bool>>, AllocError>
+    ensures { IfOk result (λ found. (ps : Parts) (w : World) → AreSound ps parts.now
+        → IsMemoInside ps w inside.now memo.now
+        → AreQuick boolean (λ t. with_value (tuple_inside w inside.now names.now parts.now t)
+        (λ v. comparison_value comparisons.In v (relation_value rel.now))) rows.now found) }
+{
+    let Some(layout) = layout_of(alloc, names)? else {
+        return Ok(None);
+    };
+    match tuples_of(alloc, memo, inside, rows, names, parts, &layout)? {
+        Some(tuples) => members_among(alloc, &tuples, rel),
+        None => Ok(None),
+    }
+}
+
+/// The truth values of IN, where a tuple of parts is looked for in one relation for all rows.
+fn memberships_in(
+    alloc: Global,
+    memo: &Memo,
+    inside: &Inside,
+    rows: &[Tuple],
+    left: &Step,
+    right: &Step,
+) -> Result<Option<Vec<bool>>, AllocError>
+    ensures { IfOk result (λ found. (ps : Parts) (w : World) → IsSound ps left.now
+        → IsSound ps right.now → IsMemoInside ps w inside.now memo.now
+        → AreQuick boolean (λ t. with_both (value_inside w inside.now left.now t)
+        (value_inside w inside.now right.now t) (comparison_value comparisons.In)) rows.now found) }
+{
+    let Some(value) = common_value(memo, right) else {
+        return Ok(None);
+    };
+    let Node::Rel(rel) = &value.node else {
+        return Ok(None);
+    };
+    match left {
+        Step::Select(selector, parts) => match selector {
+            Selector::Tuple(names) => {
+                memberships_of(alloc, memo, inside, rows, names, parts, rel)
+            }
+            _ => Ok(None),
+        },
+        _ => Ok(None),
+    }
+}
+
+/// The truth values of a condition that is such an IN.
+pub(crate) fn memberships(
+    alloc: Global,
+    memo: &Memo,
+    inside: &Inside,
+    rows: &[Tuple],
+    condition: &Step,
+) -> Result<Option<Vec<bool>>, AllocError>
+    ensures { IfOk result (λ found. AreQuickInside boolean memo.now inside.now condition.now
+        rows.now found) }
+{
+    match condition {
+        Step::Dyadic(left, op, right) => match op {
+            Dyadic::Comparison(op) => match op {
+                Comparison::In => memberships_in(alloc, memo, inside, rows, left, right),
+                _ => Ok(None),
+            },
+            Dyadic::Operator(_) => Ok(None),
+        },
+        _ => Ok(None),
+    }
+}
