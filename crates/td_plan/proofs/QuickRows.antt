@@ -114,12 +114,12 @@ pub negated : (f : Tuple → Outcome Val) (ts : List Tuple) (bs ns : List Bool) 
 negated f ts bs ns is p =
     of_one boolean (prefix_value prefixes.Not) f ts bs p ∙ negated_all bs ∙ ap (map (λ b. Valued (boolean b))) (sym is)
 
--- a constant is the same in each tuple
-pub the_same : {X : Type 0} (view : X → Val) (v : Val) (x : X) (ts : List Tuple) (n : ℕ) → Valued v ≡ Valued (view x) → length ts ≡ n
-    → AreInRows view (λ t. Valued v) ts (replicate n x)
-the_same view v x ts n is many = subst (λ n. AreInRows view (λ t. Valued v) ts (replicate n x)) many (in_each ts)
+-- an outcome that is the same in each tuple
+pub the_same : {X : Type 0} (view : X → Val) (o : Outcome Val) (x : X) (ts : List Tuple) (n : ℕ) → o ≡ Valued (view x) → length ts ≡ n
+    → AreInRows view (λ t. o) ts (replicate n x)
+the_same view o x ts n is many = subst (λ n. AreInRows view (λ t. o) ts (replicate n x)) many (in_each ts)
   where
-    in_each : (ts : List Tuple) → AreInRows view (λ t. Valued v) ts (replicate (length ts) x)
+    in_each : (ts : List Tuple) → AreInRows view (λ t. o) ts (replicate (length ts) x)
     in_each [] = refl
     in_each (t ∷ ts) = λ i. is i ∷ in_each ts i
 

@@ -1,4 +1,5 @@
 pub mod Bindings
+pub mod Evaluators
 pub mod Hands
 pub mod Memberships
 pub mod Memos

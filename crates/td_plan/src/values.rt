@@ -13,12 +13,14 @@ ghost use Rattle.td_types.specs.Types.{attribute_names};
 ghost use Rattle.td_types.specs.code.Views.{pairs_view};
 ghost use Rattle.td_value.specs.Values.{Relation};
 
+use crate::making::closed::is_closed;
 use crate::making::plans::{plan, plan_in_relvar, plan_settings};
 use crate::running::run_plan::run_valued;
 use std::alloc::Global;
 use td_body::body::Body;
 use td_eval::env::Env;
 use td_eval::operators::asked::relation_in;
+use td_eval::value::eval;
 use td_tree::expression::{Expr, NamedExpr};
 use td_tree::fault::Fault;
 use td_tree::name::Name;
@@ -27,12 +29,15 @@ use td_value::relation::Rel;
 use td_value::value::Value;
 
 /// The value of the expression, or the least of the causes for which it has none. Each virtual
-/// relvar that it may need is evaluated once.
+/// relvar that it may need is evaluated once. Literals alone need no plan.
 pub fn value_in<B: Body>(alloc: Global, env: &Env<'_, B>, expr: &Expr) -> Result<Value, Fault>
     ensures { MeetsRules (world_in env.now) (scope_in env.now) (tuples_in_hand env.now)
         (tree_view expr.now) → Answers (λ v. v) result
         (value_of (world_in env.now) (tuples_in_hand env.now) (tree_view expr.now)) }
 {
+    if is_closed(expr) {
+        return eval(alloc, env, expr);
+    }
     let plan = plan(alloc, env, expr)?;
     run_valued(alloc, env, &plan)
 }

@@ -1,7 +1,7 @@
 -- What is found without causes (this project's own).
 use Rattle.std.specs.Global.{Vec}
 use Rattle.std.specs.Prelude.{◌≡◌, List, map, Option, Some, None, ⊤}
-use Rattle.td_tree.specs.Outcomes.{Outcome, Valued}
+use Rattle.td_tree.specs.Outcomes.{Outcome, Valued, with_both}
 use Rattle.td_value.specs.Values.{Tuple, Val}
 
 -- where something is found, it is the value
@@ -17,3 +17,9 @@ AreInRows view f ts xs = map f ts ≡ map (λ x. Valued (view x)) xs
 abbrev pub AreQuick : {X : Type 0} → (X → Val) → (Tuple → Outcome Val) → List Tuple → Option (Vec X) → Type 0
 AreQuick view f ts (Some xs) = AreInRows view f ts xs.items
 AreQuick view f ts None = ⊤
+
+-- where the values of two steps in tuples are these, what is given of both is found
+abbrev pub AreOfBoth : {X Y : Type 0} → (X → Val) → (Y → Val) → (Val → Val → Outcome Val) → List X → List X → Option (Vec Y) → Type 0
+AreOfBoth from to op left right found =
+    (f g : Tuple → Outcome Val) (ts : List Tuple) → AreInRows from f ts left → AreInRows from g ts right
+    → AreQuick to (λ t. with_both (f t) (g t) op) ts found

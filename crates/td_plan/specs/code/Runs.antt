@@ -1,13 +1,23 @@
--- What steps give inside a loop over tuples, as the code has it (this project's own).
-use Rattle.std.specs.Prelude.{ℕ, List, Bool, map}
+-- What plans give, and steps inside a loop over tuples, as the code has it (this project's own).
+use Rattle.std.specs.Prelude.{ℕ, List, Bool, Result, map}
+use Rattle.td_check.specs.Scopes.{Scope}
 use Rattle.td_eval.specs.OperatorValues.{truth_value}
+use Rattle.td_eval.specs.UnfailingValues.{GivesValues}
 use Rattle.td_eval.specs.Worlds.{World}
 use Rattle.td_plan.specs.declared.plan.step.Step.{Step}
-use Rattle.td_plan.specs.Plans.{Slots, plan_columns, plan_value, plan_values, with_slot}
+use Rattle.td_plan.specs.Plans.{PlanTree, Slots, plan_columns, plan_value, plan_values, with_slot}
+use Rattle.td_plan.specs.PlansOf.{AreInHand, IsPlanFor, outermost}
 use Rattle.td_plan.specs.code.StepViews.{step_view, steps_view}
-use Rattle.td_tree.specs.Outcomes.{Outcome, gathered}
+use Rattle.td_tree.specs.declared.fault.Fault.{Fault}
+use Rattle.td_tree.specs.Outcomes.{Answers, Outcome, gathered}
 use Rattle.td_value.specs.code.Views.{values_of}
 use Rattle.td_value.specs.Values.{Tuple, Val}
+
+-- the answer is what the plan is for
+abbrev pub AnswersPlan : World → List Tuple → PlanTree → Result Val Fault → Type 0
+AnswersPlan w hand plan answer =
+    (scope : Scope) (outcome : World → List Tuple → Outcome Val) → IsPlanFor scope plan outcome → GivesValues w (outermost scope)
+    → AreInHand scope hand → Answers (λ v. v) answer (outcome w hand)
 
 -- the value of a step
 abbrev pub step_value : World → Slots → Step → Outcome Val
@@ -24,6 +34,10 @@ value_in w s slot step t = plan_value w (with_slot slot (values_of t) s) (step_v
 -- the values of each of the steps in a further tuple
 abbrev pub values_in : World → Slots → ℕ → List Step → List (Tuple → Outcome Val)
 values_in w s slot steps = plan_columns w s slot (steps_view steps)
+
+-- the values of a step in further tuples
+abbrev pub all_in : World → Slots → ℕ → Step → List Tuple → Outcome (List Val)
+all_in w s slot step ts = gathered (map (value_in w s slot step) ts)
 
 -- the truth values of a condition in tuples
 abbrev pub truths_in : World → Slots → ℕ → Step → List Tuple → Outcome (List Bool)

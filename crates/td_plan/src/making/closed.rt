@@ -55,7 +55,7 @@ fn parts_are_constant(parts: &[NamedExpr]) -> bool
 }
 
 /// Whether an expression is a tuple or a relation of literals alone.
-fn is_closed(expr: &Expr) -> bool
+pub(crate) fn is_closed(expr: &Expr) -> bool
     ensures { IsTrue result → IsClosed (tree_view expr.now) }
 {
     match expr {

@@ -1,15 +1,16 @@
 //! The value of what stands where the values of WITH's items are in scope.
-ghost use Rattle.std.specs.Prelude.{◌≡◌, ◌<◌, ◌≤◌, IfOk, IfSome, max, suc};
+ghost use Rattle.std.specs.Prelude.{◌≡◌, ◌<◌, ◌≤◌, IfOk, IfSome};
 ghost use Rattle.td_eval.specs.Worlds.{World};
 ghost use Rattle.td_plan.specs.Plans.{bound, plan_value, plan_where_bound, slots_before};
 ghost use Rattle.td_plan.specs.code.Bindings.{IsBehind, IsEntered, IsHoisted, IsMemoFrom};
 ghost use Rattle.td_plan.specs.code.Bindings.{where_in_slot};
+ghost use Rattle.td_plan.specs.code.Evaluators.{AllSound, Behind, Below, KeepsInside, Puts, Ready};
+ghost use Rattle.td_plan.specs.code.Evaluators.{ReadyIn, ReadyInside, Runs, Sound, over, over_all};
+ghost use Rattle.td_plan.specs.code.Evaluators.{over_behind};
 ghost use Rattle.td_plan.specs.code.Hands.{slots_in, slots_of};
-ghost use Rattle.td_plan.specs.code.Memos.{AreSound, IsMemo, IsMemoBelow, IsReady, IsReadyBelow};
-ghost use Rattle.td_plan.specs.code.Memos.{IsSound, Keeps, KeepsBelow, Parts};
-ghost use Rattle.td_plan.specs.code.StepHeights.{step_height, steps_height};
+ghost use Rattle.td_plan.specs.code.Memos.{IsMemo, IsMemoBelow, IsSound, Parts};
+ghost use Rattle.td_plan.specs.code.StepHeights.{step_height};
 ghost use Rattle.td_plan.specs.code.StepViews.{step_view, steps_view};
-ghost use Rattle.td_plan.specs.code.ValuesBelow.{ValuesBelow};
 ghost use Rattle.td_tree.specs.Outcomes.{Answers};
 
 use crate::plan::step::Step;
@@ -73,14 +74,11 @@ where
         slot: usize,
         item: &Step,
     ) -> Result<(), Fault>
-        requires below { ValuesBelow A.world self.now (suc (step_height item.now)) F.pre F.post }
-        requires ready { IsReady (A.world self.now.around.now) (slots_in rows.old.items) memo.old
-            (λ ps. IsSound ps item.now) }
-        ensures { (ps : Parts) → IsSound ps item.now
-            → IsMemo ps (A.world self.now.around.now) (slots_in rows.old.items) memo.old
-            → IsEntered ps (A.world self.now.around.now) slot (slots_in rows.old.items)
-            (where_in_slot (A.world self.now.around.now) (slots_in rows.old.items) slot item.now)
-            result rows.new.items memo.new }
+        requires below { Below A.world self.now F.pre F.post (over item.now) }
+        requires ready { ReadyIn A.world self.now rows.old.items memo.old (Sound item.now) }
+        ensures { Puts A.world self.now rows.old.items memo.old (Sound item.now)
+            (λ ps w s. IsEntered ps w slot s (where_in_slot w s slot item.now) result
+            rows.new.items memo.new) }
     {
         let value = self.run(memo, &hand_of(rows), item)?;
         let tuple = tuple_in(&value)?.try_clone()?;
@@ -97,14 +95,11 @@ where
         slot: usize,
         items: &[Step],
     ) -> Result<(), Fault>
-        requires below { ValuesBelow A.world self.now (suc (steps_height items.now)) F.pre F.post }
-        requires ready { IsReady (A.world self.now.around.now) (slots_in rows.old.items) memo.old
-            (λ ps. AreSound ps items.now) }
-        ensures { (ps : Parts) → AreSound ps items.now
-            → IsMemo ps (A.world self.now.around.now) (slots_in rows.old.items) memo.old
-            → IsEntered ps (A.world self.now.around.now) slot (slots_in rows.old.items)
-            (plan_where_bound (A.world self.now.around.now) (slots_in rows.old.items) slot
-            (steps_view items.now)) result rows.new.items memo.new }
+        requires below { Below A.world self.now F.pre F.post (over_all items.now) }
+        requires ready { ReadyIn A.world self.now rows.old.items memo.old (AllSound items.now) }
+        ensures { Puts A.world self.now rows.old.items memo.old (AllSound items.now)
+            (λ ps w s. IsEntered ps w slot s (plan_where_bound w s slot (steps_view items.now))
+            result rows.new.items memo.new) }
     {
         for (place, item) in items.iter().enumerate() {
             let Some(next) = slot.checked_add(place) else {
@@ -124,18 +119,12 @@ where
         items: &[Step],
         value: &Step,
     ) -> Result<Value, Fault>
-        requires below { ValuesBelow A.world self.now
-            (suc (max (steps_height items.now) (step_height value.now))) F.pre F.post }
-        requires ready { IsReady (A.world self.now.around.now) (slots_in rows.old.items) memo.old
-            (λ ps. AreSound ps items.now × IsSound ps value.now) }
-        ensures { (ps : Parts) → AreSound ps items.now × IsSound ps value.now
-            → IsMemo ps (A.world self.now.around.now) (slots_in rows.old.items) memo.old
-            → Answers (λ v. v) result
-            (plan_where_bound (A.world self.now.around.now) (slots_in rows.old.items) slot
-            (steps_view items.now)
-            (λ s. plan_value (A.world self.now.around.now) s (step_view value.now)))
-            × IsMemoFrom ps (A.world self.now.around.now) slot (slots_in rows.old.items)
-            memo.new }
+        requires below { Below A.world self.now F.pre F.post (over_behind items.now value.now) }
+        requires ready { ReadyIn A.world self.now rows.old.items memo.old
+            (Behind items.now value.now) }
+        ensures { Puts A.world self.now rows.old.items memo.old (Behind items.now value.now)
+            (λ ps w s. Answers (λ v. v) result (plan_where_bound w s slot (steps_view items.now)
+            (λ s. plan_value w s (step_view value.now))) × IsMemoFrom ps w slot s memo.new) }
     {
         self.bind_all(memo, rows, slot, items)?;
         self.run(memo, &hand_of(rows), value)
@@ -152,14 +141,10 @@ where
         items: &[Step],
         value: &Step,
     ) -> Result<Value, Fault>
-        requires below { ValuesBelow A.world self.now
-            (suc (max (steps_height items.now) (step_height value.now))) F.pre F.post }
-        requires ready { IsReady (A.world self.now.around.now) (slots_of hand.now) memo.old
-            (λ ps. AreSound ps items.now × IsSound ps value.now) }
-        ensures { Keeps (A.world self.now.around.now) (slots_of hand.now) memo.old memo.new
-            (λ ps. AreSound ps items.now × IsSound ps value.now) (Answers (λ v. v) result
-            (plan_value (A.world self.now.around.now) (slots_of hand.now)
-            (bound slot (steps_view items.now) (step_view value.now)))) }
+        requires below { Below A.world self.now F.pre F.post (over_behind items.now value.now) }
+        requires ready { Ready A.world self.now hand.now memo.old (Behind items.now value.now) }
+        ensures { Runs A.world self.now hand.now memo.old memo.new (Behind items.now value.now)
+            result (bound slot (steps_view items.now) (step_view value.now)) }
     {
         let mut rows = rows_before(self.alloc, memo, hand, slot)?;
         let answer = self.value_behind(memo, &mut rows, slot, items, value);
@@ -179,14 +164,11 @@ where
         slot: usize,
         items: &[Step],
     ) -> Option<Inside>
-        requires below { ValuesBelow A.world self.now (suc (steps_height items.now)) F.pre F.post }
-        requires ready { IsReadyBelow (A.world self.now.around.now) inside.now.slot
-            (slots_in inside.now.outer.items) memo.old (λ ps. AreSound ps items.now) }
+        requires below { Below A.world self.now F.pre F.post (over_all items.now) }
+        requires ready { ReadyInside A.world self.now inside.now memo.old (AllSound items.now) }
         requires order { inside.now.slot < slot }
-        ensures { KeepsBelow (A.world self.now.around.now) inside.now.slot
-            (slots_in inside.now.outer.items) memo.old memo.new (λ ps. AreSound ps items.now)
-            (IfSome result (IsBehind (A.world self.now.around.now) inside.now slot
-            (steps_view items.now))) }
+        ensures { KeepsInside A.world self.now inside.now memo.old memo.new (AllSound items.now)
+            (λ w s k. IfSome result (IsBehind w inside.now slot (steps_view items.now))) }
     {
         let Ok(mut rows) = again_before(self.alloc, &inside.outer, slot) else {
             return None;
@@ -212,16 +194,13 @@ where
         rows: &[Tuple],
         step: &'s Step,
     ) -> Option<Hoisted<'s>>
-        requires below { ValuesBelow A.world self.now (suc (step_height step.now)) F.pre F.post }
-        requires ready { IsReadyBelow (A.world self.now.around.now) inside.now.slot
-            (slots_in inside.now.outer.items) memo.old (λ ps. IsSound ps step.now) }
+        requires below { Below A.world self.now F.pre F.post (over step.now) }
+        requires ready { ReadyInside A.world self.now inside.now memo.old (Sound step.now) }
         ensures height { IfSome result (λ h. step_height h.step.now ≤ step_height step.now) }
         ensures sound { (ps : Parts) → IsSound ps step.now
             → IfSome result (λ h. IsSound ps h.step.now) }
-        ensures kept { KeepsBelow (A.world self.now.around.now) inside.now.slot
-            (slots_in inside.now.outer.items) memo.old memo.new (λ ps. IsSound ps step.now)
-            (IfSome result (λ h. IsHoisted (A.world self.now.around.now) inside.now step.now
-            h.inside h.step.now)) }
+        ensures kept { KeepsInside A.world self.now inside.now memo.old memo.new (Sound step.now)
+            (λ w s k. IfSome result (λ h. IsHoisted w inside.now step.now h.inside h.step.now)) }
     {
         if rows.is_empty() {
             return None;

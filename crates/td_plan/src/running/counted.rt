@@ -1,8 +1,7 @@
 //! COUNT and IS_EMPTY of an operand's tuples for which a condition is TRUE. They are counted, and
 //! no relation is made of them.
 ghost use Rattle.std.specs.Prelude.{◌≡◌, count_by, map};
-ghost use Rattle.td_eval.specs.OperatorValues.{measure_value, restricted_value};
-ghost use Rattle.td_eval.specs.OperatorValues.{truth_value};
+ghost use Rattle.td_eval.specs.OperatorValues.{measure_value, restricted_value, truth_value};
 ghost use Rattle.td_plan.specs.Counted.{number_measured};
 ghost use Rattle.td_tree.specs.Outcomes.{Answers, Outcome, gathered, with_value};
 ghost use Rattle.td_value.specs.Values.{Relation, Tuple, Val};
@@ -15,13 +14,7 @@ use td_value::value::Value;
 fn true_count(truths: &[bool]) -> usize
     ensures { result ≡ count_by (λ b. b) truths.now }
 {
-    let mut count = 0;
-    for truth in truths {
-        if *truth {
-            count += 1;
-        }
-    }
-    count
+    truths.iter().filter(|truth| **truth).count()
 }
 
 /// The value of COUNT or IS_EMPTY of a relation of so many tuples.

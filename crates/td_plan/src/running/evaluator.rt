@@ -1,12 +1,11 @@
 //! What values steps. Each function takes what values the parts of a step as a parameter, so that
 //! it is proved by itself.
-ghost use Rattle.std.specs.Prelude.{◌≡◌, suc};
+ghost use Rattle.std.specs.Prelude.{◌≡◌};
 ghost use Rattle.td_eval.specs.Worlds.{World};
-ghost use Rattle.td_plan.specs.code.Hands.{slots_of};
-ghost use Rattle.td_plan.specs.code.Memos.{AreSound, IsReady, IsSound, Keeps};
-ghost use Rattle.td_plan.specs.code.Runs.{step_value, step_values};
-ghost use Rattle.td_plan.specs.code.StepHeights.{step_height, steps_height};
-ghost use Rattle.td_plan.specs.code.ValuesBelow.{ValuesBelow};
+ghost use Rattle.td_plan.specs.code.Evaluators.{AllSound, Below, KeepsFor, Ready, Runs, Sound};
+ghost use Rattle.td_plan.specs.code.Evaluators.{over, over_all};
+ghost use Rattle.td_plan.specs.code.Runs.{step_values};
+ghost use Rattle.td_plan.specs.code.StepViews.{step_view};
 ghost use Rattle.td_tree.specs.Outcomes.{Answers, gathered};
 
 use crate::plan::step::Step;
@@ -59,12 +58,10 @@ where
         hand: &Hand<'_, '_>,
         step: &Step,
     ) -> Result<Value, Fault>
-        requires below { ValuesBelow A.world self.now (suc (step_height step.now)) F.pre F.post }
-        requires ready { IsReady (A.world self.now.around.now) (slots_of hand.now) memo.old
-            (λ ps. IsSound ps step.now) }
-        ensures { Keeps (A.world self.now.around.now) (slots_of hand.now) memo.old memo.new
-            (λ ps. IsSound ps step.now) (Answers (λ v. v) result
-            (step_value (A.world self.now.around.now) (slots_of hand.now) step.now)) }
+        requires below { Below A.world self.now F.pre F.post (over step.now) }
+        requires ready { Ready A.world self.now hand.now memo.old (Sound step.now) }
+        ensures { Runs A.world self.now hand.now memo.old memo.new (Sound step.now) result
+            (step_view step.now) }
     {
         (self.inner)(self.around, memo, hand, step)
     }
@@ -77,12 +74,10 @@ where
         hand: &Hand<'_, '_>,
         steps: &[Step],
     ) -> Result<Vec<Value>, Fault>
-        requires below { ValuesBelow A.world self.now (suc (steps_height steps.now)) F.pre F.post }
-        requires ready { IsReady (A.world self.now.around.now) (slots_of hand.now) memo.old
-            (λ ps. AreSound ps steps.now) }
-        ensures { Keeps (A.world self.now.around.now) (slots_of hand.now) memo.old memo.new
-            (λ ps. AreSound ps steps.now) (Answers (λ vs. vs.items) result (gathered
-            (step_values (A.world self.now.around.now) (slots_of hand.now) steps.now))) }
+        requires below { Below A.world self.now F.pre F.post (over_all steps.now) }
+        requires ready { Ready A.world self.now hand.now memo.old (AllSound steps.now) }
+        ensures { KeepsFor A.world self.now hand.now memo.old memo.new (AllSound steps.now)
+            (λ w s. Answers (λ vs. vs.items) result (gathered (step_values w s steps.now))) }
     {
         let mut causes = Gathering::new();
         let mut values = Vec::with_capacity(self.alloc, steps.len())?;

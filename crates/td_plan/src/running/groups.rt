@@ -1,12 +1,10 @@
 //! What aggregates are of in the tuples of groups.
-ghost use Rattle.std.specs.Prelude.{map, suc};
+ghost use Rattle.std.specs.Prelude.{map};
 ghost use Rattle.std.specs.List.{zip};
 ghost use Rattle.td_eval.specs.code.Totals.{total_of, total_view};
-ghost use Rattle.td_plan.specs.code.Hands.{slots_in};
-ghost use Rattle.td_plan.specs.code.Memos.{AreSound, IsReadyBelow, IsSound, KeepsBelow};
+ghost use Rattle.td_plan.specs.code.Evaluators.{AllSound, Below, KeepsInside, ReadyInside, Sound};
+ghost use Rattle.td_plan.specs.code.Evaluators.{over, over_all};
 ghost use Rattle.td_plan.specs.code.Runs.{value_in, values_in};
-ghost use Rattle.td_plan.specs.code.StepHeights.{step_height, steps_height};
-ghost use Rattle.td_plan.specs.code.ValuesBelow.{ValuesBelow};
 ghost use Rattle.td_tree.specs.Outcomes.{Answers, gathered};
 
 use crate::plan::step::Step;
@@ -34,14 +32,11 @@ where
         groups: &[(Tuple, Rel)],
         step: &Step,
     ) -> Result<Vec<Vec<Value>>, Fault>
-        requires below { ValuesBelow A.world self.now (suc (step_height step.now)) F.pre F.post }
-        requires ready { IsReadyBelow (A.world self.now.around.now) inside.now.slot
-            (slots_in inside.now.outer.items) memo.old (λ ps. IsSound ps step.now) }
-        ensures { KeepsBelow (A.world self.now.around.now) inside.now.slot
-            (slots_in inside.now.outer.items) memo.old memo.new (λ ps. IsSound ps step.now)
-            (Answers (λ vss. map (λ vs. vs.items) vss.items) result (gathered (map (λ g. gathered
-            (map (value_in (A.world self.now.around.now) (slots_in inside.now.outer.items)
-            inside.now.slot step.now) g.1.body)) groups.now))) }
+        requires below { Below A.world self.now F.pre F.post (over step.now) }
+        requires ready { ReadyInside A.world self.now inside.now memo.old (Sound step.now) }
+        ensures { KeepsInside A.world self.now inside.now memo.old memo.new (Sound step.now)
+            (λ w s k. Answers (λ vss. map (λ vs. vs.items) vss.items) result (gathered (map
+            (λ g. gathered (map (value_in w s k step.now) g.1.body)) groups.now))) }
     {
         let mut causes = Gathering::new();
         let mut values = Vec::with_capacity(self.alloc, groups.len())?;
@@ -62,14 +57,11 @@ where
         aggregates: &[Agg],
         steps: &[Step],
     ) -> Result<Vec<(Agg, Vec<Vec<Value>>)>, Fault>
-        requires below { ValuesBelow A.world self.now (suc (steps_height steps.now)) F.pre F.post }
-        requires ready { IsReadyBelow (A.world self.now.around.now) inside.now.slot
-            (slots_in inside.now.outer.items) memo.old (λ ps. AreSound ps steps.now) }
-        ensures { KeepsBelow (A.world self.now.around.now) inside.now.slot
-            (slots_in inside.now.outer.items) memo.old memo.new (λ ps. AreSound ps steps.now)
-            (Answers (λ ts. map total_view ts.items) result (gathered (map (total_of groups.now)
-            (zip aggregates.now (values_in (A.world self.now.around.now)
-            (slots_in inside.now.outer.items) inside.now.slot steps.now))))) }
+        requires below { Below A.world self.now F.pre F.post (over_all steps.now) }
+        requires ready { ReadyInside A.world self.now inside.now memo.old (AllSound steps.now) }
+        ensures { KeepsInside A.world self.now inside.now memo.old memo.new (AllSound steps.now)
+            (λ w s k. Answers (λ ts. map total_view ts.items) result (gathered (map (total_of
+            groups.now) (zip aggregates.now (values_in w s k steps.now))))) }
     {
         let mut causes = Gathering::new();
         let count = item_count(aggregates, steps);
@@ -77,8 +69,7 @@ where
         for place in 0..count {
             let asked = aggregate_at(aggregates, place);
             let values = self.values_in_groups(memo, inside, groups, &steps[place]);
-            let total = with_aggregate(asked, values);
-            causes.collect(&mut totals, total)?;
+            causes.collect(&mut totals, with_aggregate(asked, values))?;
         }
         causes.finish(totals)
     }

@@ -1,11 +1,9 @@
 //! The tuples in scope.
-ghost use Rattle.std.specs.Prelude.{◌≡◌, ◌<◌, ◌≤◌, IfOk, OnOk, length, option_map};
-ghost use Rattle.std.specs.Prelude.{slice_set};
+ghost use Rattle.std.specs.Prelude.{◌≡◌, ◌<◌, ◌≤◌, IfOk, OnOk, length, option_map, slice_set};
 ghost use Rattle.std.specs.List.{slice_get};
 ghost use Rattle.td_eval.specs.Worlds.{World};
 ghost use Rattle.td_plan.specs.Plans.{value_or, with_slot};
-ghost use Rattle.td_plan.specs.code.Hands.{cells_lent, cells_of, slots_in, slots_inside};
-ghost use Rattle.td_plan.specs.code.Hands.{slots_of};
+ghost use Rattle.td_plan.specs.code.Hands.{cells_lent, cells_of, slots_in, slots_inside, slots_of};
 ghost use Rattle.td_plan.specs.code.Memos.{IsMemo, IsMemoBelow, Parts};
 ghost use Rattle.td_tree.specs.Outcomes.{Answers};
 ghost use Rattle.td_value.specs.code.Views.{values_of};
@@ -31,6 +29,18 @@ pub(crate) struct Inside {
     pub(crate) slot: usize,
     pub(crate) outer: Vec<Option<Tuple>>,
 }
+
+/// Tuples of a loop in which steps are looked at without causes, and what is kept.
+#[derive(Drop)]
+pub(crate) struct Batch<'b> {
+    pub(crate) alloc: Global,
+    pub(crate) memo: &'b Memo,
+    pub(crate) inside: &'b Inside,
+    pub(crate) rows: &'b [Tuple],
+}
+
+/// What is found in each of the tuples without causes, if it is in all.
+pub(crate) type Found<T> = Result<Option<Vec<T>>, AllocError>;
 
 /// The value at a place of a tuple.
 #[inline]

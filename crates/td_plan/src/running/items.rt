@@ -28,11 +28,7 @@ pub(crate) fn item_count(aggregates: &[Agg], steps: &[Step]) -> usize
     ensures aggregates { result ≤ length aggregates.now }
     ensures steps { result ≤ length steps.now }
 {
-    if aggregates.len() < steps.len() {
-        aggregates.len()
-    } else {
-        steps.len()
-    }
+    aggregates.len().min(steps.len())
 }
 
 /// The aggregate at a place.

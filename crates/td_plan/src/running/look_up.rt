@@ -130,20 +130,6 @@ fn agreeing_tuples(alloc: Global, rel: &Rel, key: &[Name], part: &Tuple) -> Resu
     as_value(alloc, restrict(alloc, rel, &truths))
 }
 
-/// The tuples of the operand's relation that agree with the part on the names.
-fn agreeing_in_answer(
-    alloc: Global,
-    operand: Result<Value, Fault>,
-    key: &[Name],
-    part: &Tuple,
-) -> Result<Value, Fault>
-    ensures { (o : Outcome Val) → Answers (λ v. v) operand o
-        → Answers (λ v. v) result (agreeing_value key.now o part.now) }
-{
-    let operand = operand?;
-    agreeing_tuples(alloc, relation_in(&operand)?, key, part)
-}
-
 /// The tuples of the relvar of the name that agree with the part on the names of the key. A base
 /// relvar's are found by its key.
 fn agreeing_value<B: Body>(
@@ -161,7 +147,8 @@ fn agreeing_value<B: Body>(
             return as_value(around.alloc, Ok(found));
         }
     }
-    agreeing_in_answer(around.alloc, relvar_value(around, name), key, part)
+    let operand = relvar_value(around, name)?;
+    agreeing_tuples(around.alloc, relation_in(&operand)?, key, part)
 }
 
 /// The tuples of the relvar that agree on the key with the tuple that is the part's value.

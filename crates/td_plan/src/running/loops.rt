@@ -3,14 +3,13 @@
 ghost use Rattle.std.specs.Prelude.{◌≡◌, max, suc};
 ghost use Rattle.std.specs.List.{zip};
 ghost use Rattle.td_plan.specs.Plans.{aggregate, choice, dyadic, extend, measure, monadic};
-ghost use Rattle.td_plan.specs.Plans.{plan_value, restriction, summarize_by, summarize_per};
-ghost use Rattle.td_plan.specs.Plans.{summary_of};
-ghost use Rattle.td_plan.specs.code.Hands.{slots_of};
-ghost use Rattle.td_plan.specs.code.Memos.{AreSound, IsReady, IsSound, Keeps};
+ghost use Rattle.td_plan.specs.Plans.{restriction, summarize_by, summarize_per, summary_of};
+ghost use Rattle.td_plan.specs.code.Evaluators.{AllSound, Below, KeepsFor, Ready, Runs, Sound, Two};
+ghost use Rattle.td_plan.specs.code.Evaluators.{With, over, over_all, over_two, over_with};
+ghost use Rattle.td_plan.specs.code.Memos.{AreSound, IsSound};
 ghost use Rattle.td_plan.specs.code.Runs.{values_in};
 ghost use Rattle.td_plan.specs.code.StepHeights.{step_height, steps_height};
 ghost use Rattle.td_plan.specs.code.StepViews.{dyadic_view, step_view, steps_view};
-ghost use Rattle.td_plan.specs.code.ValuesBelow.{ValuesBelow};
 ghost use Rattle.td_eval.specs.OperatorValues.{measure_value};
 ghost use Rattle.td_tree.specs.Outcomes.{Answers, Outcome, with_value};
 ghost use Rattle.td_value.specs.Values.{Val};
@@ -57,14 +56,10 @@ where
         op: Dyadic,
         right: &Step,
     ) -> Result<Value, Fault>
-        requires below { ValuesBelow A.world self.now
-            (suc (max (step_height left.now) (step_height right.now))) F.pre F.post }
-        requires ready { IsReady (A.world self.now.around.now) (slots_of hand.now) memo.old
-            (λ ps. IsSound ps left.now × IsSound ps right.now) }
-        ensures { Keeps (A.world self.now.around.now) (slots_of hand.now) memo.old memo.new
-            (λ ps. IsSound ps left.now × IsSound ps right.now) (Answers (λ v. v) result
-            (plan_value (A.world self.now.around.now) (slots_of hand.now)
-            (dyadic (step_view left.now) (dyadic_view op) (step_view right.now)))) }
+        requires below { Below A.world self.now F.pre F.post (over_two left.now right.now) }
+        requires ready { Ready A.world self.now hand.now memo.old (Two left.now right.now) }
+        ensures { Runs A.world self.now hand.now memo.old memo.new (Two left.now right.now) result
+            (dyadic (step_view left.now) (dyadic_view op) (step_view right.now)) }
     {
         let first = self.run(memo, hand, left);
         let second = self.run(memo, hand, right);
@@ -81,18 +76,13 @@ where
         consequent: &Step,
         alternative: &Step,
     ) -> Result<Value, Fault>
-        requires below { ValuesBelow A.world self.now
-            (suc (max (step_height condition.now)
-            (max (step_height consequent.now) (step_height alternative.now)))) F.pre F.post }
-        requires ready { IsReady (A.world self.now.around.now) (slots_of hand.now) memo.old
-            (λ ps. IsSound ps condition.now × IsSound ps consequent.now
-            × IsSound ps alternative.now) }
-        ensures { Keeps (A.world self.now.around.now) (slots_of hand.now) memo.old memo.new
-            (λ ps. IsSound ps condition.now × IsSound ps consequent.now
-            × IsSound ps alternative.now) (Answers (λ v. v) result
-            (plan_value (A.world self.now.around.now) (slots_of hand.now)
-            (choice (step_view condition.now) (step_view consequent.now)
-            (step_view alternative.now)))) }
+        requires below { Below A.world self.now F.pre F.post (suc (max (step_height condition.now)
+            (max (step_height consequent.now) (step_height alternative.now)))) }
+        requires ready { Ready A.world self.now hand.now memo.old (λ ps. IsSound ps condition.now
+            × IsSound ps consequent.now × IsSound ps alternative.now) }
+        ensures { Runs A.world self.now hand.now memo.old memo.new (λ ps. IsSound ps condition.now
+            × IsSound ps consequent.now × IsSound ps alternative.now) result (choice (step_view
+            condition.now) (step_view consequent.now) (step_view alternative.now)) }
     {
         if truth_of(self.run(memo, hand, condition))? {
             self.run(memo, hand, consequent)
@@ -111,14 +101,10 @@ where
         slot: usize,
         condition: &Step,
     ) -> Result<Value, Fault>
-        requires below { ValuesBelow A.world self.now
-            (suc (max (step_height operand.now) (step_height condition.now))) F.pre F.post }
-        requires ready { IsReady (A.world self.now.around.now) (slots_of hand.now) memo.old
-            (λ ps. IsSound ps operand.now × IsSound ps condition.now) }
-        ensures { Keeps (A.world self.now.around.now) (slots_of hand.now) memo.old memo.new
-            (λ ps. IsSound ps operand.now × IsSound ps condition.now) (Answers (λ v. v) result
-            (plan_value (A.world self.now.around.now) (slots_of hand.now)
-            (restriction (step_view operand.now) slot (step_view condition.now)))) }
+        requires below { Below A.world self.now F.pre F.post (over_two operand.now condition.now) }
+        requires ready { Ready A.world self.now hand.now memo.old (Two operand.now condition.now) }
+        ensures { Runs A.world self.now hand.now memo.old memo.new (Two operand.now condition.now)
+            result (restriction (step_view operand.now) slot (step_view condition.now)) }
     {
         let operand = self.run(memo, hand, operand)?;
         let rel = relation_in(&operand)?;
@@ -138,14 +124,11 @@ where
         slot: usize,
         condition: &Step,
     ) -> Result<Value, Fault>
-        requires below { ValuesBelow A.world self.now
-            (suc (max (step_height operand.now) (step_height condition.now))) F.pre F.post }
-        requires ready { IsReady (A.world self.now.around.now) (slots_of hand.now) memo.old
-            (λ ps. IsSound ps operand.now × IsSound ps condition.now) }
-        ensures { Keeps (A.world self.now.around.now) (slots_of hand.now) memo.old memo.new
-            (λ ps. IsSound ps operand.now × IsSound ps condition.now) (Answers (λ v. v) result
-            (plan_value (A.world self.now.around.now) (slots_of hand.now) (monadic (measure op)
-            (restriction (step_view operand.now) slot (step_view condition.now))))) }
+        requires below { Below A.world self.now F.pre F.post (over_two operand.now condition.now) }
+        requires ready { Ready A.world self.now hand.now memo.old (Two operand.now condition.now) }
+        ensures { Runs A.world self.now hand.now memo.old memo.new (Two operand.now condition.now)
+            result (monadic (measure op) (restriction (step_view operand.now) slot (step_view
+            condition.now))) }
     {
         let operand = self.run(memo, hand, operand)?;
         let rel = relation_in(&operand)?;
@@ -163,13 +146,10 @@ where
         op: Measure,
         operand: &Step,
     ) -> Result<Value, Fault>
-        requires below { ValuesBelow A.world self.now (suc (step_height operand.now)) F.pre F.post }
-        requires ready { IsReady (A.world self.now.around.now) (slots_of hand.now) memo.old
-            (λ ps. IsSound ps operand.now) }
-        ensures { Keeps (A.world self.now.around.now) (slots_of hand.now) memo.old memo.new
-            (λ ps. IsSound ps operand.now) (Answers (λ v. v) result
-            (plan_value (A.world self.now.around.now) (slots_of hand.now)
-            (monadic (measure op) (step_view operand.now)))) }
+        requires below { Below A.world self.now F.pre F.post (over operand.now) }
+        requires ready { Ready A.world self.now hand.now memo.old (Sound operand.now) }
+        ensures { Runs A.world self.now hand.now memo.old memo.new (Sound operand.now) result
+            (monadic (measure op) (step_view operand.now)) }
     {
         match operand {
             Step::Restriction(operand, slot, condition, _) => {
@@ -190,14 +170,10 @@ where
         slot: usize,
         value: &Step,
     ) -> Result<Value, Fault>
-        requires below { ValuesBelow A.world self.now
-            (suc (max (step_height operand.now) (step_height value.now))) F.pre F.post }
-        requires ready { IsReady (A.world self.now.around.now) (slots_of hand.now) memo.old
-            (λ ps. IsSound ps operand.now × IsSound ps value.now) }
-        ensures { Keeps (A.world self.now.around.now) (slots_of hand.now) memo.old memo.new
-            (λ ps. IsSound ps operand.now × IsSound ps value.now) (Answers (λ v. v) result
-            (plan_value (A.world self.now.around.now) (slots_of hand.now)
-            (aggregate op (step_view operand.now) slot (step_view value.now)))) }
+        requires below { Below A.world self.now F.pre F.post (over_two operand.now value.now) }
+        requires ready { Ready A.world self.now hand.now memo.old (Two operand.now value.now) }
+        ensures { Runs A.world self.now hand.now memo.old memo.new (Two operand.now value.now)
+            result (aggregate op (step_view operand.now) slot (step_view value.now)) }
     {
         let operand = self.run(memo, hand, operand)?;
         let rel = relation_in(&operand)?;
@@ -216,15 +192,11 @@ where
         slot: usize,
         values: &[Step],
     ) -> Result<Value, Fault>
-        requires below { ValuesBelow A.world self.now
-            (suc (max (step_height operand.now) (steps_height values.now))) F.pre F.post }
-        requires ready { IsReady (A.world self.now.around.now) (slots_of hand.now) memo.old
-            (λ ps. IsSound ps operand.now × AreSound ps values.now) }
-        ensures { Keeps (A.world self.now.around.now) (slots_of hand.now) memo.old memo.new
-            (λ ps. IsSound ps operand.now × AreSound ps values.now) (Answers (λ v. v) result
-            (plan_value (A.world self.now.around.now) (slots_of hand.now)
-            (extend (step_view operand.now) (pairs_view attributes.now) slot
-            (steps_view values.now)))) }
+        requires below { Below A.world self.now F.pre F.post (over_with operand.now values.now) }
+        requires ready { Ready A.world self.now hand.now memo.old (With operand.now values.now) }
+        ensures { Runs A.world self.now hand.now memo.old memo.new (With operand.now values.now)
+            result (extend (step_view operand.now) (pairs_view attributes.now) slot (steps_view
+            values.now)) }
     {
         let operand = self.run(memo, hand, operand)?;
         let rel = relation_in(&operand)?;
@@ -248,16 +220,12 @@ where
         per: &Value,
         items: &Summands<'_>,
     ) -> Result<Value, Fault>
-        requires below { ValuesBelow A.world self.now (suc (steps_height items.now.values.now))
-            F.pre F.post }
-        requires ready { IsReady (A.world self.now.around.now) (slots_of hand.now) memo.old
-            (λ ps. AreSound ps items.now.values.now) }
-        ensures { Keeps (A.world self.now.around.now) (slots_of hand.now) memo.old memo.new
-            (λ ps. AreSound ps items.now.values.now) (Answers (λ v. v) result (summary_of
-            (pairs_view items.now.attributes.now) (zip items.now.aggregates.now
-            (values_in (A.world self.now.around.now) (slots_of hand.now) items.now.slot
-            items.now.values.now))
-            operand.now per.now)) }
+        requires below { Below A.world self.now F.pre F.post (over_all items.now.values.now) }
+        requires ready { Ready A.world self.now hand.now memo.old (AllSound items.now.values.now) }
+        ensures { KeepsFor A.world self.now hand.now memo.old memo.new (AllSound
+            items.now.values.now) (λ w s. Answers (λ v. v) result (summary_of (pairs_view
+            items.now.attributes.now) (zip items.now.aggregates.now (values_in w s items.now.slot
+            items.now.values.now)) operand.now per.now)) }
     {
         if items.attributes.len() != item_count(items.aggregates, items.values) {
             return Err(Fault::Refused(Cause::Heading));
@@ -279,17 +247,14 @@ where
         per: &Step,
         items: &Summands<'_>,
     ) -> Result<Value, Fault>
-        requires below { ValuesBelow A.world self.now
-            (suc (max (max (step_height operand.now) (step_height per.now))
-            (steps_height items.now.values.now))) F.pre F.post }
-        requires ready { IsReady (A.world self.now.around.now) (slots_of hand.now) memo.old
-            (λ ps. IsSound ps operand.now × IsSound ps per.now × AreSound ps items.now.values.now) }
-        ensures { Keeps (A.world self.now.around.now) (slots_of hand.now) memo.old memo.new
-            (λ ps. IsSound ps operand.now × IsSound ps per.now
-            × AreSound ps items.now.values.now) (Answers (λ v. v) result
-            (plan_value (A.world self.now.around.now) (slots_of hand.now) (summarize_per
+        requires below { Below A.world self.now F.pre F.post (suc (max (max (step_height
+            operand.now) (step_height per.now)) (steps_height items.now.values.now))) }
+        requires ready { Ready A.world self.now hand.now memo.old (λ ps. IsSound ps operand.now
+            × IsSound ps per.now × AreSound ps items.now.values.now) }
+        ensures { Runs A.world self.now hand.now memo.old memo.new (λ ps. IsSound ps operand.now
+            × IsSound ps per.now × AreSound ps items.now.values.now) result (summarize_per
             (step_view operand.now) (step_view per.now) (pairs_view items.now.attributes.now)
-            items.now.aggregates.now items.now.slot (steps_view items.now.values.now)))) }
+            items.now.aggregates.now items.now.slot (steps_view items.now.values.now)) }
     {
         let operand = self.run(memo, hand, operand);
         let per = self.run(memo, hand, per);
@@ -307,16 +272,14 @@ where
         by: &Attributes,
         items: &Summands<'_>,
     ) -> Result<Value, Fault>
-        requires below { ValuesBelow A.world self.now
-            (suc (max (step_height operand.now) (steps_height items.now.values.now))) F.pre F.post }
-        requires ready { IsReady (A.world self.now.around.now) (slots_of hand.now) memo.old
-            (λ ps. IsSound ps operand.now × AreSound ps items.now.values.now) }
-        ensures { Keeps (A.world self.now.around.now) (slots_of hand.now) memo.old memo.new
-            (λ ps. IsSound ps operand.now × AreSound ps items.now.values.now)
-            (Answers (λ v. v) result
-            (plan_value (A.world self.now.around.now) (slots_of hand.now) (summarize_by
-            (step_view operand.now) (attributes_view by.now) (pairs_view items.now.attributes.now)
-            items.now.aggregates.now items.now.slot (steps_view items.now.values.now)))) }
+        requires below { Below A.world self.now F.pre F.post (over_with operand.now
+            items.now.values.now) }
+        requires ready { Ready A.world self.now hand.now memo.old (With operand.now
+            items.now.values.now) }
+        ensures { Runs A.world self.now hand.now memo.old memo.new (With operand.now
+            items.now.values.now) result (summarize_by (step_view operand.now) (attributes_view
+            by.now) (pairs_view items.now.attributes.now) items.now.aggregates.now items.now.slot
+            (steps_view items.now.values.now)) }
     {
         let operand = self.run(memo, hand, operand)?;
         let per = projected_by(self.alloc, &operand, by)?;

@@ -1,5 +1,5 @@
 //! IN a relation that is the same for all tuples of a loop: its tuples are hashed once.
-ghost use Rattle.std.specs.Prelude.{◌≡◌, IfOk, IfSome, IsTrue, List};
+ghost use Rattle.std.specs.Prelude.{◌≡◌, IfOk, IsTrue, List};
 ghost use Rattle.std.specs.HashSet.{contains};
 ghost use Rattle.std.specs.List.Sorted.{IsPermutation};
 ghost use Rattle.std.specs.Ordering.{eq_by_cmp};
@@ -10,18 +10,19 @@ ghost use Rattle.td_plan.specs.code.Hands.{slots_of};
 ghost use Rattle.td_plan.specs.code.Memberships.{IsPutInHand, tuple_inside};
 ghost use Rattle.td_plan.specs.code.Memos.{AreSound, IsMemo, IsSound, Parts};
 ghost use Rattle.td_plan.specs.code.Quick.{AreInRows, AreQuick, IsQuick};
-ghost use Rattle.td_plan.specs.code.QuickInside.{AreQuickInside, IsMemoInside, value_inside};
+ghost use Rattle.td_plan.specs.code.QuickInside.{AreComparedIn, FoundIn, IsMemoInside};
+ghost use Rattle.td_plan.specs.code.QuickInside.{value_inside};
 ghost use Rattle.td_plan.specs.code.Runs.{step_values};
 ghost use Rattle.td_plan.specs.declared.running.hand.Inside.{Inside};
 ghost use Rattle.td_tree.specs.declared.operator.Comparison.TheVariants as comparisons;
-ghost use Rattle.td_tree.specs.Outcomes.{Outcome, Valued, gathered, with_both, with_value};
+ghost use Rattle.td_tree.specs.Outcomes.{Outcome, Valued, gathered, with_value};
 ghost use Rattle.td_types.specs.Headings.{are_distinct};
 ghost use Rattle.td_value.specs.Sets.{has};
 ghost use Rattle.td_value.specs.Values.{Tuple, Val, boolean, relation_value, tuple_cmp};
 ghost use Rattle.td_value.specs.Values.{tuple_value};
 
 use crate::plan::step::{Dyadic, Selector, Step};
-use crate::running::hand::{Hand, Inside, hand_inside};
+use crate::running::hand::{Batch, Found, Hand, hand_inside};
 use crate::running::memo::{Memo, lent_answer};
 use crate::running::quick::quick_value;
 use std::alloc::{AllocError, Global};
@@ -44,11 +45,7 @@ fn common_value<'m>(memo: &'m Memo, step: &'m Step) -> Option<&'m Value>
 {
     match step {
         Step::Constant(value) => Some(value),
-        Step::Once {
-            place,
-            reach: _,
-            part: _,
-        } => lent_answer(memo, *place),
+        Step::Once { place, .. } => lent_answer(memo, *place),
         _ => None,
     }
 }
@@ -102,30 +99,22 @@ fn put_tuple(
 }
 
 /// The tuples that give the names the values of the parts in each of the rows.
-fn tuples_of(
-    alloc: Global,
-    memo: &Memo,
-    inside: &Inside,
-    rows: &[Tuple],
-    names: &[Name],
-    parts: &[Step],
-    layout: &Layout,
-) -> Result<Option<Vec<Tuple>>, AllocError>
+fn tuples_of(batch: &Batch<'_>, names: &[Name], parts: &[Step], layout: &Layout) -> Found<Tuple>
     requires distinct { IsTrue (are_distinct names.now) }
     requires places { IsPermutation (numbered_sources 0 names.now) layout.now }
     ensures { IfOk result (λ found. (ps : Parts) (w : World) → AreSound ps parts.now
-        → IsMemoInside ps w inside.now memo.now
-        → AreQuick tuple_value (tuple_inside w inside.now names.now parts.now) rows.now found) }
+        → IsMemoInside ps w batch.now.inside.now batch.now.memo.now → AreQuick tuple_value
+        (tuple_inside w batch.now.inside.now names.now parts.now) batch.now.rows.now found) }
 {
-    let mut laid = LaidOut::new(alloc, layout, rows.len())?;
-    let mut values = Vec::with_capacity(alloc, names.len())?;
-    for row in rows {
-        let hand = hand_inside(inside, row);
-        if !put_tuple(memo, &hand, names, parts, &mut values, &mut laid)? {
+    let mut laid = LaidOut::new(batch.alloc, layout, batch.rows.len())?;
+    let mut values = Vec::with_capacity(batch.alloc, names.len())?;
+    for row in batch.rows {
+        let hand = hand_inside(batch.inside, row);
+        if !put_tuple(batch.memo, &hand, names, parts, &mut values, &mut laid)? {
             return Ok(None);
         }
     }
-    Ok(Some(laid.finish(alloc)?))
+    Ok(Some(laid.finish(batch.alloc)?))
 }
 
 /// The tuples, hashed.
@@ -141,11 +130,7 @@ fn hashed(alloc: Global, rows: &[Tuple]) -> Result<HashSet<Tuple>, AllocError>
 }
 
 /// Which of the tuples are members of the relation, if all are of its heading.
-fn members_among(
-    alloc: Global,
-    tuples: &[Tuple],
-    rel: &Rel,
-) -> Result<Option<Vec<bool>>, AllocError>
+fn members_among(alloc: Global, tuples: &[Tuple], rel: &Rel) -> Found<bool>
     ensures { IfOk result (λ found. (f : Tuple → Outcome Val) (ts : List Tuple)
         → AreInRows tuple_value f ts tuples.now
         → AreQuick boolean (λ t. with_value (f t)
@@ -164,44 +149,27 @@ fn members_among(
 
 /// The truth values of IN the relation, for the tuples that give the names the values of the parts
 /// in each of the rows.
-fn memberships_of(
-    alloc: Global,
-    memo: &Memo,
-    inside: &Inside,
-    rows: &[Tuple],
-    names: &[Name],
-    parts: &[Step],
-    rel: &Rel,
-) -> Result<Option<Vec<bool>>, AllocError>
+fn memberships_of(batch: &Batch<'_>, names: &[Name], parts: &[Step], rel: &Rel) -> Found<bool>
     ensures { IfOk result (λ found. (ps : Parts) (w : World) → AreSound ps parts.now
-        → IsMemoInside ps w inside.now memo.now
-        → AreQuick boolean (λ t. with_value (tuple_inside w inside.now names.now parts.now t)
-        (λ v. comparison_value comparisons.In v (relation_value rel.now))) rows.now found) }
+        → IsMemoInside ps w batch.now.inside.now batch.now.memo.now → AreQuick boolean (λ t.
+        with_value (tuple_inside w batch.now.inside.now names.now parts.now t)
+        (λ v. comparison_value comparisons.In v (relation_value rel.now))) batch.now.rows.now
+        found) }
 {
-    let Some(layout) = layout_of(alloc, names)? else {
+    let Some(layout) = layout_of(batch.alloc, names)? else {
         return Ok(None);
     };
-    match tuples_of(alloc, memo, inside, rows, names, parts, &layout)? {
-        Some(tuples) => members_among(alloc, &tuples, rel),
+    match tuples_of(batch, names, parts, &layout)? {
+        Some(tuples) => members_among(batch.alloc, &tuples, rel),
         None => Ok(None),
     }
 }
 
 /// The truth values of IN, where a tuple of parts is looked for in one relation for all rows.
-fn memberships_in(
-    alloc: Global,
-    memo: &Memo,
-    inside: &Inside,
-    rows: &[Tuple],
-    left: &Step,
-    right: &Step,
-) -> Result<Option<Vec<bool>>, AllocError>
-    ensures { IfOk result (λ found. (ps : Parts) (w : World) → IsSound ps left.now
-        → IsSound ps right.now → IsMemoInside ps w inside.now memo.now
-        → AreQuick boolean (λ t. with_both (value_inside w inside.now left.now t)
-        (value_inside w inside.now right.now t) (comparison_value comparisons.In)) rows.now found) }
+fn memberships_in(batch: &Batch<'_>, left: &Step, right: &Step) -> Found<bool>
+    ensures { IfOk result (AreComparedIn batch.now left.now comparisons.In right.now) }
 {
-    let Some(value) = common_value(memo, right) else {
+    let Some(value) = common_value(batch.memo, right) else {
         return Ok(None);
     };
     let Node::Rel(rel) = &value.node else {
@@ -209,9 +177,7 @@ fn memberships_in(
     };
     match left {
         Step::Select(selector, parts) => match selector {
-            Selector::Tuple(names) => {
-                memberships_of(alloc, memo, inside, rows, names, parts, rel)
-            }
+            Selector::Tuple(names) => memberships_of(batch, names, parts, rel),
             _ => Ok(None),
         },
         _ => Ok(None),
@@ -219,20 +185,13 @@ fn memberships_in(
 }
 
 /// The truth values of a condition that is such an IN.
-pub(crate) fn memberships(
-    alloc: Global,
-    memo: &Memo,
-    inside: &Inside,
-    rows: &[Tuple],
-    condition: &Step,
-) -> Result<Option<Vec<bool>>, AllocError>
-    ensures { IfOk result (λ found. AreQuickInside boolean memo.now inside.now condition.now
-        rows.now found) }
+pub(crate) fn memberships(batch: &Batch<'_>, condition: &Step) -> Found<bool>
+    ensures { IfOk result (FoundIn boolean batch.now condition.now) }
 {
     match condition {
         Step::Dyadic(left, op, right) => match op {
             Dyadic::Comparison(op) => match op {
-                Comparison::In => memberships_in(alloc, memo, inside, rows, left, right),
+                Comparison::In => memberships_in(batch, left, right),
                 _ => Ok(None),
             },
             Dyadic::Operator(_) => Ok(None),

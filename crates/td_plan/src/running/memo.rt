@@ -1,5 +1,5 @@
 //! The answers of parts of a plan that are kept while it is run.
-ghost use Rattle.std.specs.Prelude.{◌≡◌, ◌<◌, ◌≤◌, false, IfOk, IfSome, length, slice_set};
+ghost use Rattle.std.specs.Prelude.{◌≡◌, ◌<◌, false, IfOk, IfSome, length, slice_set};
 ghost use Rattle.std.specs.List.{slice_get};
 ghost use Rattle.td_eval.specs.Worlds.{World};
 ghost use Rattle.td_plan.specs.Plans.{Slots, plan_value};
@@ -48,35 +48,13 @@ pub(crate) fn new_memo(alloc: Global, places: usize) -> Result<Memo, AllocError>
     Ok(Memo { kept, deepest: 0 })
 }
 
-/// What is kept at a place.
-fn kept_at(kept: &[Option<Kept>], place: usize) -> Option<Result<Value, Fault>>
-    ensures { IfSome result (λ r. (ps : Parts) (w : World) (s : Slots) → AreKept ps w s kept.now
-        → Answers (λ v. v) r (plan_value w s (ps place))) }
-{
-    match kept.get(place) {
-        Some(Some(found)) => Some(again(&found.answer)),
-        _ => None,
-    }
-}
-
 /// The answer of the part at a place, if it is kept.
 pub(crate) fn kept_answer(memo: &Memo, place: usize) -> Option<Result<Value, Fault>>
     ensures { IfSome result (λ r. (ps : Parts) (w : World) (s : Slots) → IsMemo ps w s memo.now
         → Answers (λ v. v) r (plan_value w s (ps place))) }
 {
-    kept_at(&memo.kept, place)
-}
-
-/// The value that is lent by what is kept at a place.
-fn lent_at(kept: &[Option<Kept>], place: usize) -> Option<&Value>
-    ensures { (ps : Parts) (w : World) (s : Slots) → AreKept ps w s kept.now
-        → IsQuick (λ v. v.now) result (plan_value w s (ps place)) }
-{
-    match kept.get(place) {
-        Some(Some(found)) => match &found.answer {
-            Ok(value) => Some(value),
-            Err(_) => None,
-        },
+    match memo.kept.get(place) {
+        Some(Some(found)) => Some(again(&found.answer)),
         _ => None,
     }
 }
@@ -87,7 +65,13 @@ pub(crate) fn lent_answer(memo: &Memo, place: usize) -> Option<&Value>
     ensures { (ps : Parts) (w : World) (s : Slots) → IsMemo ps w s memo.now
         → IsQuick (λ v. v.now) result (plan_value w s (ps place)) }
 {
-    lent_at(&memo.kept, place)
+    match memo.kept.get(place) {
+        Some(Some(found)) => match &found.answer {
+            Ok(value) => Some(value),
+            Err(_) => None,
+        },
+        _ => None,
+    }
 }
 
 /// Puts what is kept at a place.

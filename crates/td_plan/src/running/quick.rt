@@ -1,16 +1,12 @@
 //! The values of steps that are numbers, truth values or texts, found without causes. Where one is
 //! not found so, or there is none, the step is run.
 ghost use Rattle.std.specs.List.{slice_get};
-ghost use Rattle.td_eval.specs.OperatorValues.{comparison_value, operator_value, prefix_value};
-ghost use Rattle.td_eval.specs.Worlds.{World};
+ghost use Rattle.td_eval.specs.OperatorValues.{comparison_value, operator_value};
 ghost use Rattle.td_plan.specs.Plans.{value_or};
-ghost use Rattle.td_plan.specs.code.Hands.{slots_in, slots_of};
-ghost use Rattle.td_plan.specs.code.Memos.{IsMemo, IsSound, Parts};
+ghost use Rattle.td_plan.specs.code.Hands.{slots_in};
 ghost use Rattle.td_plan.specs.code.Quick.{IsQuick};
-ghost use Rattle.td_plan.specs.code.Runs.{step_value};
-ghost use Rattle.td_tree.specs.Outcomes.{Outcome, with_both};
-ghost use Rattle.td_tree.specs.declared.operator.Operator.TheVariants as operators;
-ghost use Rattle.td_tree.specs.declared.operator.Prefix.TheVariants as prefixes;
+ghost use Rattle.td_plan.specs.code.QuickInside.{IsComparedIn, IsQuickIn};
+ghost use Rattle.td_tree.specs.Outcomes.{Outcome};
 ghost use Rattle.td_value.specs.Values.{Val, boolean, char, integer};
 ghost use Rattle.td_value.specs.code.Views.{values_of};
 
@@ -36,21 +32,7 @@ pub(crate) fn lent_value(tuple: &Tuple, place: usize) -> Option<&Value>
 pub(crate) fn outer_value(outer: &[Option<Tuple>], slot: usize, place: usize) -> Option<&Value>
     ensures { IsQuick (λ v. v.now) result (value_or (slice_get (slots_in outer.now slot) place)) }
 {
-    match outer_tuple(outer, slot) {
-        Some(tuple) => lent_value(tuple, place),
-        None => None,
-    }
-}
-
-/// The attribute at a place of the tuple in a slot.
-#[inline]
-fn lent_attribute<'h>(hand: &'h Hand<'_, '_>, slot: usize, place: usize) -> Option<&'h Value>
-    ensures { IsQuick (λ v. v.now) result (value_or (slice_get (slots_of hand.now slot) place)) }
-{
-    match tuple_in(hand, slot) {
-        Some(tuple) => lent_value(tuple, place),
-        None => None,
-    }
+    lent_value(outer_tuple(outer, slot)?, place)
 }
 
 /// The value of a step that is a constant, an attribute or a part whose answer is kept.
@@ -60,18 +42,12 @@ pub(crate) fn quick_value<'h>(
     hand: &'h Hand<'_, '_>,
     step: &'h Step,
 ) -> Option<&'h Value>
-    ensures { (ps : Parts) (w : World) → IsSound ps step.now
-        → IsMemo ps w (slots_of hand.now) memo.now
-        → IsQuick (λ v. v.now) result (step_value w (slots_of hand.now) step.now) }
+    ensures { IsQuickIn (λ v. v.now) memo.now hand.now step.now result }
 {
     match step {
         Step::Constant(value) => Some(value),
-        Step::Attribute { slot, place } => lent_attribute(hand, *slot, *place),
-        Step::Once {
-            place,
-            reach: _,
-            part: _,
-        } => lent_answer(memo, *place),
+        Step::Attribute { slot, place } => lent_value(tuple_in(hand, *slot)?, *place),
+        Step::Once { place, .. } => lent_answer(memo, *place),
         _ => None,
     }
 }
@@ -81,12 +57,9 @@ pub(crate) fn quick_value<'h>(
 pub(crate) fn number_in(found: Option<&Value>) -> Option<i64>
     ensures { (o : Outcome Val) → IsQuick (λ v. v.now) found.entry o → IsQuick integer result o }
 {
-    match found {
-        Some(value) => match &value.node {
-            Node::Int(z) => Some(*z),
-            _ => None,
-        },
-        None => None,
+    match &found?.node {
+        Node::Int(z) => Some(*z),
+        _ => None,
     }
 }
 
@@ -95,12 +68,9 @@ pub(crate) fn number_in(found: Option<&Value>) -> Option<i64>
 fn truth_in(found: Option<&Value>) -> Option<bool>
     ensures { (o : Outcome Val) → IsQuick (λ v. v.now) found.entry o → IsQuick boolean result o }
 {
-    match found {
-        Some(value) => match &value.node {
-            Node::Bool(b) => Some(*b),
-            _ => None,
-        },
-        None => None,
+    match &found?.node {
+        Node::Bool(b) => Some(*b),
+        _ => None,
     }
 }
 
@@ -110,99 +80,41 @@ fn text_in(found: Option<&Value>) -> Option<&str>
     ensures { (o : Outcome Val) → IsQuick (λ v. v.now) found.entry o
         → IsQuick (λ t. char t.now) result o }
 {
-    match found {
-        Some(value) => match &value.node {
-            Node::Text(t) => Some(t.as_str()),
-            _ => None,
-        },
-        None => None,
+    match &found?.node {
+        Node::Text(t) => Some(t.as_str()),
+        _ => None,
     }
 }
 
 // ---- numbers
 
-/// The sum of two numbers.
-#[inline]
-fn sum(x: i64, y: i64) -> Option<i64>
-    ensures { IsQuick integer result (operator_value operators.Add (integer x) (integer y)) }
-{
-    x.checked_add(y)
-}
-
-/// The difference of two numbers.
-#[inline]
-fn difference(x: i64, y: i64) -> Option<i64>
-    ensures { IsQuick integer result (operator_value operators.Subtract (integer x) (integer y)) }
-{
-    x.checked_sub(y)
-}
-
-/// The product of two numbers.
-#[inline]
-fn product(x: i64, y: i64) -> Option<i64>
-    ensures { IsQuick integer result (operator_value operators.Multiply (integer x) (integer y)) }
-{
-    x.checked_mul(y)
-}
-
-/// The quotient of two numbers, truncated toward zero.
-#[inline]
-fn quotient(x: i64, y: i64) -> Option<i64>
-    ensures { IsQuick integer result (operator_value operators.Divide (integer x) (integer y)) }
-{
-    if y == 0 {
-        return None;
-    }
-    x.checked_div(y)
-}
-
-/// The number with the other sign.
-#[inline]
-fn negative_of(x: i64) -> Option<i64>
-    ensures { IsQuick integer result (prefix_value prefixes.Negate (integer x)) }
-{
-    x.checked_neg()
-}
-
-/// The number that an operator gives of two numbers.
+/// The number that an operator gives of two numbers. A quotient is truncated toward zero.
 #[inline]
 pub(crate) fn numbers_operated(op: Operator, x: i64, y: i64) -> Option<i64>
     ensures { IsQuick integer result (operator_value op (integer x) (integer y)) }
 {
     match op {
-        Operator::Add => sum(x, y),
-        Operator::Subtract => difference(x, y),
-        Operator::Multiply => product(x, y),
-        Operator::Divide => quotient(x, y),
+        Operator::Add => x.checked_add(y),
+        Operator::Subtract => x.checked_sub(y),
+        Operator::Multiply => x.checked_mul(y),
+        Operator::Divide if y != 0 => x.checked_div(y),
         _ => None,
     }
 }
 
 /// The number that is a step's value.
 pub(crate) fn quick_number(memo: &Memo, hand: &Hand<'_, '_>, step: &Step) -> Option<i64>
-    ensures { (ps : Parts) (w : World) → IsSound ps step.now
-        → IsMemo ps w (slots_of hand.now) memo.now
-        → IsQuick integer result (step_value w (slots_of hand.now) step.now) }
+    ensures { IsQuickIn integer memo.now hand.now step.now result }
 {
     match step {
-        Step::Dyadic(left, Dyadic::Operator(op), right) => match quick_number(memo, hand, left) {
-            None => None,
-            Some(x) => match quick_number(memo, hand, right) {
-                None => None,
-                Some(y) => numbers_operated(*op, x, y),
-            },
-        },
-        Step::Monadic(Monadic::Prefix(Prefix::Negate), operand) => {
-            match quick_number(memo, hand, operand) {
-                None => None,
-                Some(x) => negative_of(x),
-            }
+        Step::Dyadic(left, Dyadic::Operator(op), right) => {
+            let x = quick_number(memo, hand, left)?;
+            numbers_operated(*op, x, quick_number(memo, hand, right)?)
         }
-        Step::Once {
-            place,
-            reach: _,
-            part,
-        } => match number_in(lent_answer(memo, *place)) {
+        Step::Monadic(Monadic::Prefix(Prefix::Negate), operand) => {
+            quick_number(memo, hand, operand)?.checked_neg()
+        }
+        Step::Once { place, part, .. } => match number_in(lent_answer(memo, *place)) {
             Some(z) => Some(z),
             None => quick_number(memo, hand, part),
         },
@@ -214,14 +126,8 @@ pub(crate) fn quick_number(memo: &Memo, hand: &Hand<'_, '_>, step: &Step) -> Opt
 
 /// The text that is a step's value, lent by the step or a tuple in scope.
 #[inline]
-pub(crate) fn quick_text<'h>(
-    memo: &'h Memo,
-    hand: &'h Hand<'_, '_>,
-    step: &'h Step,
-) -> Option<&'h str>
-    ensures { (ps : Parts) (w : World) → IsSound ps step.now
-        → IsMemo ps w (slots_of hand.now) memo.now
-        → IsQuick (λ t. char t.now) result (step_value w (slots_of hand.now) step.now) }
+fn quick_text<'h>(memo: &'h Memo, hand: &'h Hand<'_, '_>, step: &'h Step) -> Option<&'h str>
+    ensures { IsQuickIn (λ t. char t.now) memo.now hand.now step.now result }
 {
     text_in(quick_value(memo, hand, step))
 }
@@ -268,18 +174,10 @@ fn quick_texts(
     op: Comparison,
     right: &Step,
 ) -> Option<bool>
-    ensures { (ps : Parts) (w : World) → IsSound ps left.now → IsSound ps right.now
-        → IsMemo ps w (slots_of hand.now) memo.now
-        → IsQuick boolean result (with_both (step_value w (slots_of hand.now) left.now)
-        (step_value w (slots_of hand.now) right.now) (comparison_value op)) }
+    ensures { IsComparedIn memo.now hand.now left.now op right.now result }
 {
-    match quick_text(memo, hand, left) {
-        None => None,
-        Some(s) => match quick_text(memo, hand, right) {
-            None => None,
-            Some(t) => texts_compared(op, s, t),
-        },
-    }
+    let s = quick_text(memo, hand, left)?;
+    texts_compared(op, s, quick_text(memo, hand, right)?)
 }
 
 /// The truth value of a comparison of steps whose values are numbers or texts.
@@ -291,17 +189,11 @@ fn quick_comparison(
     op: Comparison,
     right: &Step,
 ) -> Option<bool>
-    ensures { (ps : Parts) (w : World) → IsSound ps left.now → IsSound ps right.now
-        → IsMemo ps w (slots_of hand.now) memo.now
-        → IsQuick boolean result (with_both (step_value w (slots_of hand.now) left.now)
-        (step_value w (slots_of hand.now) right.now) (comparison_value op)) }
+    ensures { IsComparedIn memo.now hand.now left.now op right.now result }
 {
     match quick_number(memo, hand, left) {
         None => quick_texts(memo, hand, left, op, right),
-        Some(x) => match quick_number(memo, hand, right) {
-            None => None,
-            Some(y) => numbers_compared(op, x, y),
-        },
+        Some(x) => numbers_compared(op, x, quick_number(memo, hand, right)?),
     }
 }
 
@@ -319,32 +211,20 @@ pub(crate) fn truths_operated(op: Operator, a: bool, b: bool) -> Option<bool>
 
 /// The truth value that is a step's value. Both operands of AND and OR must have one.
 pub(crate) fn quick_truth(memo: &Memo, hand: &Hand<'_, '_>, step: &Step) -> Option<bool>
-    ensures { (ps : Parts) (w : World) → IsSound ps step.now
-        → IsMemo ps w (slots_of hand.now) memo.now
-        → IsQuick boolean result (step_value w (slots_of hand.now) step.now) }
+    ensures { IsQuickIn boolean memo.now hand.now step.now result }
 {
     match step {
         Step::Dyadic(left, Dyadic::Comparison(op), right) => {
             quick_comparison(memo, hand, left, *op, right)
         }
-        Step::Dyadic(left, Dyadic::Operator(op), right) => match quick_truth(memo, hand, left) {
-            None => None,
-            Some(a) => match quick_truth(memo, hand, right) {
-                None => None,
-                Some(b) => truths_operated(*op, a, b),
-            },
-        },
-        Step::Monadic(Monadic::Prefix(Prefix::Not), operand) => {
-            match quick_truth(memo, hand, operand) {
-                None => None,
-                Some(b) => Some(!b),
-            }
+        Step::Dyadic(left, Dyadic::Operator(op), right) => {
+            let a = quick_truth(memo, hand, left)?;
+            truths_operated(*op, a, quick_truth(memo, hand, right)?)
         }
-        Step::Once {
-            place,
-            reach: _,
-            part,
-        } => match truth_in(lent_answer(memo, *place)) {
+        Step::Monadic(Monadic::Prefix(Prefix::Not), operand) => {
+            Some(!quick_truth(memo, hand, operand)?)
+        }
+        Step::Once { place, part, .. } => match truth_in(lent_answer(memo, *place)) {
             Some(truth) => Some(truth),
             None => quick_truth(memo, hand, part),
         },

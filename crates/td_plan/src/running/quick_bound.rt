@@ -13,9 +13,8 @@ ghost use Rattle.td_tree.specs.Outcomes.{Valued, with_value};
 
 use crate::plan::step::Step;
 use crate::running::bound::again_before;
-use crate::running::hand::{Inside, put};
+use crate::running::hand::{Batch, Inside, put};
 use crate::running::memo::{Memo, lent_answer};
-use std::alloc::Global;
 use td_eval::operators::asked::tuple_in;
 use td_value::tuple::Tuple;
 
@@ -26,16 +25,9 @@ fn kept_tuple<'m>(memo: &'m Memo, step: &Step) -> Option<&'m Tuple>
         → with_value (step_value w s step.now) (λ v. on_tuple v Valued) ≡ Valued t.now) }
 {
     match step {
-        Step::Once {
-            place,
-            reach: _,
-            part: _,
-        } => match lent_answer(memo, *place) {
-            Some(value) => match tuple_in(value) {
-                Ok(tuple) => Some(tuple),
-                Err(_) => None,
-            },
-            None => None,
+        Step::Once { place, .. } => match tuple_in(lent_answer(memo, *place)?) {
+            Ok(tuple) => Some(tuple),
+            Err(_) => None,
         },
         _ => None,
     }
@@ -82,27 +74,26 @@ fn put_all_kept(
 /// items name no tuple that the loop goes over, and their answers are kept.
 #[inline(never)]
 pub(crate) fn quick_behind(
-    alloc: Global,
-    memo: &Memo,
-    inside: &Inside,
+    batch: &Batch<'_>,
     slot: usize,
     reach: usize,
     items: &[Step],
 ) -> Option<Inside>
     ensures { IfSome result (λ inner. (ps : Parts) (w : World)
-        → IsBoundInside ps w memo.now inside.now slot reach (steps_view items.now)
-        (AreSound ps items.now) inner) }
+        → IsBoundInside ps w batch.now.memo.now batch.now.inside.now slot reach
+        (steps_view items.now) (AreSound ps items.now) inner) }
 {
+    let inside = batch.inside;
     if inside.slot < reach {
         return None;
     }
     if slot <= inside.slot {
         return None;
     }
-    let Ok(mut outer) = again_before(alloc, &inside.outer, slot) else {
+    let Ok(mut outer) = again_before(batch.alloc, &inside.outer, slot) else {
         return None;
     };
-    put_all_kept(memo, &mut outer, slot, items)?;
+    put_all_kept(batch.memo, &mut outer, slot, items)?;
     Some(Inside {
         slot: inside.slot,
         outer,

@@ -3,47 +3,36 @@
 ghost use Rattle.std.specs.Prelude.{◌≡◌, ◌<◌, IfOk, List, Some, length};
 ghost use Rattle.std.specs.List.{slice_get};
 ghost use Rattle.td_eval.specs.OperatorValues.{operator_value};
-ghost use Rattle.td_eval.specs.Worlds.{World};
 ghost use Rattle.td_plan.specs.Plans.{value_or};
-ghost use Rattle.td_plan.specs.code.Hands.{slots_in};
-ghost use Rattle.td_plan.specs.code.Memos.{IsSound, Parts};
-ghost use Rattle.td_plan.specs.code.Quick.{AreInRows, AreQuick, IsQuick};
-ghost use Rattle.td_plan.specs.code.QuickInside.{AreQuickInside, IsMemoInside, value_inside};
-ghost use Rattle.td_tree.specs.Outcomes.{Outcome, Valued, with_both};
+ghost use Rattle.td_plan.specs.code.Quick.{AreOfBoth, AreQuick, IsQuick};
+ghost use Rattle.td_plan.specs.code.QuickInside.{FoundIn};
+ghost use Rattle.td_tree.specs.Outcomes.{Outcome};
 ghost use Rattle.td_value.specs.Values.{Tuple, Val, integer};
 ghost use Rattle.td_value.specs.code.Views.{values_of};
 
 use crate::plan::step::{Dyadic, Step};
-use crate::running::hand::{Inside, hand_inside};
-use crate::running::memo::Memo;
+use crate::running::hand::{Batch, Found, hand_inside};
 use crate::running::quick::{lent_value, number_in, numbers_operated, outer_value, quick_number};
 use crate::running::quick_bound::quick_behind;
-use std::alloc::{AllocError, Global};
+use std::alloc::Global;
 use td_tree::operator::Operator;
 use td_value::tuple::Tuple;
 use td_value::value::Value;
 
-/// A number once for each tuple.
-fn constant_numbers(
-    alloc: Global,
-    value: &Value,
-    count: usize,
-) -> Result<Option<Vec<i64>>, AllocError>
-    ensures { IfOk result (λ found. (ts : List Tuple) → length ts ≡ count
-        → AreQuick integer (λ t. Valued value.now) ts found) }
+/// A number that was found once, for each tuple.
+fn same_numbers(alloc: Global, found: Option<&Value>, count: usize) -> Found<i64>
+    ensures { IfOk result (λ numbers. (o : Outcome Val) (ts : List Tuple)
+        → IsQuick (λ v. v.now) found.entry o → length ts ≡ count
+        → AreQuick integer (λ t. o) ts numbers) }
 {
-    match number_in(Some(value)) {
+    match number_in(found) {
         Some(z) => Ok(Some(vec![in alloc; z; count]?)),
         None => Ok(None),
     }
 }
 
 /// The numbers that are an attribute of the tuples.
-fn attribute_numbers(
-    alloc: Global,
-    rows: &[Tuple],
-    place: usize,
-) -> Result<Option<Vec<i64>>, AllocError>
+fn attribute_numbers(alloc: Global, rows: &[Tuple], place: usize) -> Found<i64>
     ensures { IfOk result
         (AreQuick integer (λ t. value_or (slice_get (values_of t) place)) rows.now) }
 {
@@ -57,48 +46,14 @@ fn attribute_numbers(
     Ok(Some(numbers))
 }
 
-/// A number that is an attribute of a tuple further out, once for each tuple.
-fn outer_numbers(
-    alloc: Global,
-    outer: &[Option<Tuple>],
-    slot: usize,
-    place: usize,
-    count: usize,
-) -> Result<Option<Vec<i64>>, AllocError>
-    ensures { IfOk result (λ found. (ts : List Tuple) → length ts ≡ count
-        → AreQuick integer (λ t. value_or (slice_get (slots_in outer.now slot) place)) ts found) }
-{
-    match outer_value(outer, slot, place) {
-        Some(value) => constant_numbers(alloc, value, count),
-        None => Ok(None),
-    }
-}
-
-/// The number that a step gives in a tuple.
-#[inline]
-fn quick_number_in(memo: &Memo, inside: &Inside, row: &Tuple, step: &Step) -> Option<i64>
-    ensures { (ps : Parts) (w : World) → IsSound ps step.now
-        → IsMemoInside ps w inside.now memo.now
-        → IsQuick integer result (value_inside w inside.now step.now row.now) }
-{
-    let hand = hand_inside(inside, row);
-    quick_number(memo, &hand, step)
-}
-
 /// The numbers that a step gives, by each tuple alone.
-fn single_numbers(
-    alloc: Global,
-    memo: &Memo,
-    inside: &Inside,
-    rows: &[Tuple],
-    step: &Step,
-) -> Result<Option<Vec<i64>>, AllocError>
-    ensures { IfOk result (λ found. AreQuickInside integer memo.now inside.now step.now rows.now
-        found) }
+fn single_numbers(batch: &Batch<'_>, step: &Step) -> Found<i64>
+    ensures { IfOk result (FoundIn integer batch.now step.now) }
 {
-    let mut numbers = Vec::with_capacity(alloc, rows.len())?;
-    for row in rows {
-        let Some(z) = quick_number_in(memo, inside, row, step) else {
+    let mut numbers = Vec::with_capacity(batch.alloc, batch.rows.len())?;
+    for row in batch.rows {
+        let hand = hand_inside(batch.inside, row);
+        let Some(z) = quick_number(batch.memo, &hand, step) else {
             return Ok(None);
         };
         numbers.push(z)?;
@@ -116,15 +71,8 @@ pub(crate) fn number_at(numbers: &[i64], place: usize) -> i64
 }
 
 /// The numbers that an operator gives of two at each place.
-fn numbers_of_both(
-    alloc: Global,
-    op: Operator,
-    left: &[i64],
-    right: &[i64],
-) -> Result<Option<Vec<i64>>, AllocError>
-    ensures { IfOk result (λ found. (f g : Tuple → Outcome Val) (ts : List Tuple)
-        → AreInRows integer f ts left.now → AreInRows integer g ts right.now
-        → AreQuick integer (λ t. with_both (f t) (g t) (operator_value op)) ts found) }
+fn numbers_of_both(alloc: Global, op: Operator, left: &[i64], right: &[i64]) -> Found<i64>
+    ensures { IfOk result (AreOfBoth integer integer (operator_value op) left.now right.now) }
 {
     if left.len() != right.len() {
         return Ok(None);
@@ -142,31 +90,25 @@ fn numbers_of_both(
 }
 
 /// The numbers that a step gives in tuples.
-pub(crate) fn quick_numbers(
-    alloc: Global,
-    memo: &Memo,
-    inside: &Inside,
-    rows: &[Tuple],
-    step: &Step,
-) -> Result<Option<Vec<i64>>, AllocError>
-    ensures { IfOk result (λ found. AreQuickInside integer memo.now inside.now step.now rows.now
-        found) }
+pub(crate) fn quick_numbers(batch: &Batch<'_>, step: &Step) -> Found<i64>
+    ensures { IfOk result (FoundIn integer batch.now step.now) }
 {
     match step {
-        Step::Constant(value) => constant_numbers(alloc, value, rows.len()),
+        Step::Constant(value) => same_numbers(batch.alloc, Some(value), batch.rows.len()),
         Step::Attribute { slot, place } => {
-            if *slot == inside.slot {
-                attribute_numbers(alloc, rows, *place)
+            if *slot == batch.inside.slot {
+                attribute_numbers(batch.alloc, batch.rows, *place)
             } else {
-                outer_numbers(alloc, &inside.outer, *slot, *place, rows.len())
+                let found = outer_value(&batch.inside.outer, *slot, *place);
+                same_numbers(batch.alloc, found, batch.rows.len())
             }
         }
         Step::Dyadic(left, op, right) => match op {
-            Dyadic::Operator(op) => match quick_numbers(alloc, memo, inside, rows, left)? {
+            Dyadic::Operator(op) => match quick_numbers(batch, left)? {
                 None => Ok(None),
-                Some(left) => match quick_numbers(alloc, memo, inside, rows, right)? {
+                Some(left) => match quick_numbers(batch, right)? {
                     None => Ok(None),
-                    Some(right) => numbers_of_both(alloc, *op, &left, &right),
+                    Some(right) => numbers_of_both(batch.alloc, *op, &left, &right),
                 },
             },
             Dyadic::Comparison(_) => Ok(None),
@@ -176,21 +118,17 @@ pub(crate) fn quick_numbers(
             reach,
             items,
             value,
-        } => match quick_behind(alloc, memo, inside, *slot, *reach, items) {
+        } => match quick_behind(batch, *slot, *reach, items) {
             None => Ok(None),
-            Some(inner) => quick_numbers(alloc, memo, &inner, rows, value),
+            Some(inner) => quick_numbers(
+                &Batch {
+                    inside: &inner,
+                    ..*batch
+                },
+                value,
+            ),
         },
-        Step::Once {
-            place: _,
-            reach,
-            part,
-        } => {
-            if inside.slot < *reach {
-                quick_numbers(alloc, memo, inside, rows, part)
-            } else {
-                single_numbers(alloc, memo, inside, rows, step)
-            }
-        }
-        _ => single_numbers(alloc, memo, inside, rows, step),
+        Step::Once { reach, part, .. } if batch.inside.slot < *reach => quick_numbers(batch, part),
+        _ => single_numbers(batch, step),
     }
 }

@@ -1,20 +1,18 @@
 //! What plans give in each tuple of a relation.
-ghost use Rattle.std.specs.Prelude.{◌≡◌, length, map, suc, ⊤};
+ghost use Rattle.std.specs.Prelude.{◌≡◌, length};
 ghost use Rattle.td_algebra.specs.Columns.{columns_view};
 ghost use Rattle.td_eval.specs.code.NewColumns.{named_columns};
 ghost use Rattle.td_eval.specs.OperatorValues.{column_values, truth_value};
-ghost use Rattle.td_plan.specs.code.Hands.{slots_in, slots_of};
-ghost use Rattle.td_plan.specs.code.Memos.{AreSound, IsReady, IsReadyBelow, IsSound};
-ghost use Rattle.td_plan.specs.code.Memos.{Keeps, KeepsBelow};
-ghost use Rattle.td_plan.specs.code.Runs.{step_value, truths_in, value_in, values_in};
-ghost use Rattle.td_plan.specs.code.StepHeights.{step_height, steps_height};
-ghost use Rattle.td_plan.specs.code.ValuesBelow.{ValuesBelow};
+ghost use Rattle.td_plan.specs.code.Evaluators.{AllSound, Below, KeepsFor, KeepsInside, Ready};
+ghost use Rattle.td_plan.specs.code.Evaluators.{ReadyInside, Runs, Sound, over, over_all};
+ghost use Rattle.td_plan.specs.code.Runs.{all_in, step_value, truths_in, value_in, values_in};
+ghost use Rattle.td_plan.specs.code.StepViews.{step_view};
 ghost use Rattle.td_tree.specs.Outcomes.{Answers, gathered};
 ghost use Rattle.td_types.specs.code.Views.{pairs_view, type_view};
 
 use crate::plan::step::Step;
 use crate::running::evaluator::{Evaluator, InWorld};
-use crate::running::hand::{Hand, Inside, hand_inside};
+use crate::running::hand::{Batch, Hand, Inside, hand_inside};
 use crate::running::memo::{Memo, forget};
 use crate::running::quick::{quick_number, quick_truth};
 use crate::running::quick_rows::{FEWEST, quick_truths};
@@ -34,12 +32,10 @@ where
     /// The value of a step in a tuple. A number is looked for without causes first.
     #[inline]
     fn value_with(&self, memo: &mut Memo, hand: &Hand<'_, '_>, step: &Step) -> Result<Value, Fault>
-        requires below { ValuesBelow A.world self.now (suc (step_height step.now)) F.pre F.post }
-        requires ready { IsReady (A.world self.now.around.now) (slots_of hand.now) memo.old
-            (λ ps. IsSound ps step.now) }
-        ensures { Keeps (A.world self.now.around.now) (slots_of hand.now) memo.old memo.new
-            (λ ps. IsSound ps step.now) (Answers (λ v. v) result
-            (step_value (A.world self.now.around.now) (slots_of hand.now) step.now)) }
+        requires below { Below A.world self.now F.pre F.post (over step.now) }
+        requires ready { Ready A.world self.now hand.now memo.old (Sound step.now) }
+        ensures { Runs A.world self.now hand.now memo.old memo.new (Sound step.now) result
+            (step_view step.now) }
     {
         match quick_number(memo, hand, step) {
             Some(z) => Ok(Value::int(z)),
@@ -55,13 +51,10 @@ where
         hand: &Hand<'_, '_>,
         condition: &Step,
     ) -> Result<bool, Fault>
-        requires below { ValuesBelow A.world self.now (suc (step_height condition.now))
-            F.pre F.post }
-        requires ready { IsReady (A.world self.now.around.now) (slots_of hand.now) memo.old
-            (λ ps. IsSound ps condition.now) }
-        ensures { Keeps (A.world self.now.around.now) (slots_of hand.now) memo.old memo.new
-            (λ ps. IsSound ps condition.now) (Answers (λ b. b) result (truth_value
-            (step_value (A.world self.now.around.now) (slots_of hand.now) condition.now))) }
+        requires below { Below A.world self.now F.pre F.post (over condition.now) }
+        requires ready { Ready A.world self.now hand.now memo.old (Sound condition.now) }
+        ensures { KeepsFor A.world self.now hand.now memo.old memo.new (Sound condition.now)
+            (λ w s. Answers (λ b. b) result (truth_value (step_value w s condition.now))) }
     {
         match quick_truth(memo, hand, condition) {
             Some(truth) => Ok(truth),
@@ -78,13 +71,10 @@ where
         row: &Tuple,
         step: &Step,
     ) -> Result<Value, Fault>
-        requires below { ValuesBelow A.world self.now (suc (step_height step.now)) F.pre F.post }
-        requires ready { IsReadyBelow (A.world self.now.around.now) inside.now.slot
-            (slots_in inside.now.outer.items) memo.old (λ ps. IsSound ps step.now) }
-        ensures { KeepsBelow (A.world self.now.around.now) inside.now.slot
-            (slots_in inside.now.outer.items) memo.old memo.new (λ ps. IsSound ps step.now)
-            (Answers (λ v. v) result (value_in (A.world self.now.around.now)
-            (slots_in inside.now.outer.items) inside.now.slot step.now row.now)) }
+        requires below { Below A.world self.now F.pre F.post (over step.now) }
+        requires ready { ReadyInside A.world self.now inside.now memo.old (Sound step.now) }
+        ensures { KeepsInside A.world self.now inside.now memo.old memo.new (Sound step.now)
+            (λ w s k. Answers (λ v. v) result (value_in w s k step.now row.now)) }
     {
         let hand = hand_inside(inside, row);
         let value = self.value_with(memo, &hand, step);
@@ -102,14 +92,11 @@ where
         row: &Tuple,
         condition: &Step,
     ) -> Result<bool, Fault>
-        requires below { ValuesBelow A.world self.now (suc (step_height condition.now))
-            F.pre F.post }
-        requires ready { IsReadyBelow (A.world self.now.around.now) inside.now.slot
-            (slots_in inside.now.outer.items) memo.old (λ ps. IsSound ps condition.now) }
-        ensures { KeepsBelow (A.world self.now.around.now) inside.now.slot
-            (slots_in inside.now.outer.items) memo.old memo.new (λ ps. IsSound ps condition.now)
-            (Answers (λ b. b) result (truth_value (value_in (A.world self.now.around.now)
-            (slots_in inside.now.outer.items) inside.now.slot condition.now row.now))) }
+        requires below { Below A.world self.now F.pre F.post (over condition.now) }
+        requires ready { ReadyInside A.world self.now inside.now memo.old (Sound condition.now) }
+        ensures { KeepsInside A.world self.now inside.now memo.old memo.new (Sound condition.now)
+            (λ w s k. Answers (λ b. b) result (truth_value (value_in w s k condition.now
+            row.now))) }
     {
         let hand = hand_inside(inside, row);
         let truth = self.truth_with(memo, &hand, condition);
@@ -126,14 +113,10 @@ where
         rows: &[Tuple],
         condition: &Step,
     ) -> Result<Vec<bool>, Fault>
-        requires below { ValuesBelow A.world self.now (suc (step_height condition.now))
-            F.pre F.post }
-        requires ready { IsReadyBelow (A.world self.now.around.now) inside.now.slot
-            (slots_in inside.now.outer.items) memo.old (λ ps. IsSound ps condition.now) }
-        ensures { KeepsBelow (A.world self.now.around.now) inside.now.slot
-            (slots_in inside.now.outer.items) memo.old memo.new (λ ps. IsSound ps condition.now)
-            (Answers (λ m. m.items) result (truths_in (A.world self.now.around.now)
-            (slots_in inside.now.outer.items) inside.now.slot condition.now rows.now)) }
+        requires below { Below A.world self.now F.pre F.post (over condition.now) }
+        requires ready { ReadyInside A.world self.now inside.now memo.old (Sound condition.now) }
+        ensures { KeepsInside A.world self.now inside.now memo.old memo.new (Sound condition.now)
+            (λ w s k. Answers (λ m. m.items) result (truths_in w s k condition.now rows.now)) }
     {
         let mut causes = Gathering::new();
         let mut truths = Vec::with_capacity(self.alloc, rows.len())?;
@@ -143,51 +126,8 @@ where
         causes.finish(truths)
     }
 
-    /// What is kept of the parts of a condition once it has been asked in the first tuple, so that
-    /// it may be found without causes in all of them.
-    #[inline(never)]
-    fn ask_first(&self, memo: &mut Memo, inside: &Inside, rows: &[Tuple], condition: &Step)
-        requires below { ValuesBelow A.world self.now (suc (step_height condition.now))
-            F.pre F.post }
-        requires ready { IsReadyBelow (A.world self.now.around.now) inside.now.slot
-            (slots_in inside.now.outer.items) memo.old (λ ps. IsSound ps condition.now) }
-        ensures { KeepsBelow (A.world self.now.around.now) inside.now.slot
-            (slots_in inside.now.outer.items) memo.old memo.new (λ ps. IsSound ps condition.now)
-            ⊤ }
-    {
-        if let Some(row) = rows.first() {
-            let _ = self.truth_in_row(memo, inside, row, condition);
-        }
-    }
-
-    /// The truth values of a condition in many tuples. They are looked for in all tuples at once
-    /// first.
-    #[inline(never)]
-    fn truths_of_many(
-        &self,
-        memo: &mut Memo,
-        inside: &Inside,
-        rows: &[Tuple],
-        condition: &Step,
-    ) -> Result<Vec<bool>, Fault>
-        requires below { ValuesBelow A.world self.now (suc (step_height condition.now))
-            F.pre F.post }
-        requires ready { IsReadyBelow (A.world self.now.around.now) inside.now.slot
-            (slots_in inside.now.outer.items) memo.old (λ ps. IsSound ps condition.now) }
-        ensures { KeepsBelow (A.world self.now.around.now) inside.now.slot
-            (slots_in inside.now.outer.items) memo.old memo.new (λ ps. IsSound ps condition.now)
-            (Answers (λ m. m.items) result (truths_in (A.world self.now.around.now)
-            (slots_in inside.now.outer.items) inside.now.slot condition.now rows.now)) }
-    {
-        self.ask_first(memo, inside, rows, condition);
-        match quick_truths(self.alloc, memo, inside, rows, condition) {
-            Ok(Some(truths)) => Ok(truths),
-            Ok(None) => self.truths_by_row(memo, inside, rows, condition),
-            Err(_) => Err(Fault::Memory),
-        }
-    }
-
-    /// The truth values of a condition in tuples, one after the other where they are few.
+    /// The truth values of a condition in tuples. Where these are many, it is asked in the first,
+    /// so that its parts are kept, and then looked for in all of them at once.
     #[inline(never)]
     fn truths_asked(
         &self,
@@ -196,19 +136,25 @@ where
         rows: &[Tuple],
         condition: &Step,
     ) -> Result<Vec<bool>, Fault>
-        requires below { ValuesBelow A.world self.now (suc (step_height condition.now))
-            F.pre F.post }
-        requires ready { IsReadyBelow (A.world self.now.around.now) inside.now.slot
-            (slots_in inside.now.outer.items) memo.old (λ ps. IsSound ps condition.now) }
-        ensures { KeepsBelow (A.world self.now.around.now) inside.now.slot
-            (slots_in inside.now.outer.items) memo.old memo.new (λ ps. IsSound ps condition.now)
-            (Answers (λ m. m.items) result (truths_in (A.world self.now.around.now)
-            (slots_in inside.now.outer.items) inside.now.slot condition.now rows.now)) }
+        requires below { Below A.world self.now F.pre F.post (over condition.now) }
+        requires ready { ReadyInside A.world self.now inside.now memo.old (Sound condition.now) }
+        ensures { KeepsInside A.world self.now inside.now memo.old memo.new (Sound condition.now)
+            (λ w s k. Answers (λ m. m.items) result (truths_in w s k condition.now rows.now)) }
     {
         if rows.len() < FEWEST {
-            self.truths_by_row(memo, inside, rows, condition)
-        } else {
-            self.truths_of_many(memo, inside, rows, condition)
+            return self.truths_by_row(memo, inside, rows, condition);
+        }
+        let _ = self.truth_in_row(memo, inside, &rows[0], condition);
+        let alloc = self.alloc;
+        let batch = Batch {
+            alloc,
+            memo: &*memo,
+            inside,
+            rows,
+        };
+        match quick_truths(&batch, condition)? {
+            Some(truths) => Ok(truths),
+            None => self.truths_by_row(memo, inside, rows, condition),
         }
     }
 
@@ -222,14 +168,10 @@ where
         rows: &[Tuple],
         condition: &Step,
     ) -> Result<Vec<bool>, Fault>
-        requires below { ValuesBelow A.world self.now (suc (step_height condition.now))
-            F.pre F.post }
-        requires ready { IsReadyBelow (A.world self.now.around.now) inside.now.slot
-            (slots_in inside.now.outer.items) memo.old (λ ps. IsSound ps condition.now) }
-        ensures { KeepsBelow (A.world self.now.around.now) inside.now.slot
-            (slots_in inside.now.outer.items) memo.old memo.new (λ ps. IsSound ps condition.now)
-            (Answers (λ m. m.items) result (truths_in (A.world self.now.around.now)
-            (slots_in inside.now.outer.items) inside.now.slot condition.now rows.now)) }
+        requires below { Below A.world self.now F.pre F.post (over condition.now) }
+        requires ready { ReadyInside A.world self.now inside.now memo.old (Sound condition.now) }
+        ensures { KeepsInside A.world self.now inside.now memo.old memo.new (Sound condition.now)
+            (λ w s k. Answers (λ m. m.items) result (truths_in w s k condition.now rows.now)) }
     {
         match self.hoisted_loop(memo, inside, rows, condition) {
             Some(hoisted) => self.truths_asked(memo, &hoisted.inside, rows, hoisted.step),
@@ -246,14 +188,10 @@ where
         rows: &[Tuple],
         step: &Step,
     ) -> Result<Vec<Value>, Fault>
-        requires below { ValuesBelow A.world self.now (suc (step_height step.now)) F.pre F.post }
-        requires ready { IsReadyBelow (A.world self.now.around.now) inside.now.slot
-            (slots_in inside.now.outer.items) memo.old (λ ps. IsSound ps step.now) }
-        ensures { KeepsBelow (A.world self.now.around.now) inside.now.slot
-            (slots_in inside.now.outer.items) memo.old memo.new (λ ps. IsSound ps step.now)
-            (Answers (λ vs. vs.items) result (gathered (map (value_in
-            (A.world self.now.around.now) (slots_in inside.now.outer.items) inside.now.slot
-            step.now) rows.now))) }
+        requires below { Below A.world self.now F.pre F.post (over step.now) }
+        requires ready { ReadyInside A.world self.now inside.now memo.old (Sound step.now) }
+        ensures { KeepsInside A.world self.now inside.now memo.old memo.new (Sound step.now)
+            (λ w s k. Answers (λ vs. vs.items) result (all_in w s k step.now rows.now)) }
     {
         let mut causes = Gathering::new();
         let mut values = Vec::with_capacity(self.alloc, rows.len())?;
@@ -273,14 +211,10 @@ where
         rows: &[Tuple],
         step: &Step,
     ) -> Result<Vec<Value>, Fault>
-        requires below { ValuesBelow A.world self.now (suc (step_height step.now)) F.pre F.post }
-        requires ready { IsReadyBelow (A.world self.now.around.now) inside.now.slot
-            (slots_in inside.now.outer.items) memo.old (λ ps. IsSound ps step.now) }
-        ensures { KeepsBelow (A.world self.now.around.now) inside.now.slot
-            (slots_in inside.now.outer.items) memo.old memo.new (λ ps. IsSound ps step.now)
-            (Answers (λ vs. vs.items) result (gathered (map (value_in
-            (A.world self.now.around.now) (slots_in inside.now.outer.items) inside.now.slot
-            step.now) rows.now))) }
+        requires below { Below A.world self.now F.pre F.post (over step.now) }
+        requires ready { ReadyInside A.world self.now inside.now memo.old (Sound step.now) }
+        ensures { KeepsInside A.world self.now inside.now memo.old memo.new (Sound step.now)
+            (λ w s k. Answers (λ vs. vs.items) result (all_in w s k step.now rows.now)) }
     {
         match self.hoisted_loop(memo, inside, rows, step) {
             Some(hoisted) => self.values_by_row(memo, &hoisted.inside, rows, hoisted.step),
@@ -300,14 +234,11 @@ where
         ty: &Ty,
         step: &Step,
     ) -> Result<Vec<Value>, Fault>
-        requires below { ValuesBelow A.world self.now (suc (step_height step.now)) F.pre F.post }
-        requires ready { IsReadyBelow (A.world self.now.around.now) inside.now.slot
-            (slots_in inside.now.outer.items) memo.old (λ ps. IsSound ps step.now) }
-        ensures { KeepsBelow (A.world self.now.around.now) inside.now.slot
-            (slots_in inside.now.outer.items) memo.old memo.new (λ ps. IsSound ps step.now)
-            (Answers (λ vs. vs.items) result (column_values (type_view ty.now) (value_in
-            (A.world self.now.around.now) (slots_in inside.now.outer.items) inside.now.slot
-            step.now) rows.now)) }
+        requires below { Below A.world self.now F.pre F.post (over step.now) }
+        requires ready { ReadyInside A.world self.now inside.now memo.old (Sound step.now) }
+        ensures { KeepsInside A.world self.now inside.now memo.old memo.new (Sound step.now)
+            (λ w s k. Answers (λ vs. vs.items) result (column_values (type_view ty.now) (value_in w
+            s k step.now) rows.now)) }
     {
         let mut causes = Gathering::new();
         let mut values = Vec::with_capacity(self.alloc, rows.len())?;
@@ -329,14 +260,11 @@ where
         ty: &Ty,
         step: &Step,
     ) -> Result<Vec<Value>, Fault>
-        requires below { ValuesBelow A.world self.now (suc (step_height step.now)) F.pre F.post }
-        requires ready { IsReadyBelow (A.world self.now.around.now) inside.now.slot
-            (slots_in inside.now.outer.items) memo.old (λ ps. IsSound ps step.now) }
-        ensures { KeepsBelow (A.world self.now.around.now) inside.now.slot
-            (slots_in inside.now.outer.items) memo.old memo.new (λ ps. IsSound ps step.now)
-            (Answers (λ vs. vs.items) result (column_values (type_view ty.now) (value_in
-            (A.world self.now.around.now) (slots_in inside.now.outer.items) inside.now.slot
-            step.now) rows.now)) }
+        requires below { Below A.world self.now F.pre F.post (over step.now) }
+        requires ready { ReadyInside A.world self.now inside.now memo.old (Sound step.now) }
+        ensures { KeepsInside A.world self.now inside.now memo.old memo.new (Sound step.now)
+            (λ w s k. Answers (λ vs. vs.items) result (column_values (type_view ty.now) (value_in w
+            s k step.now) rows.now)) }
     {
         match self.hoisted_loop(memo, inside, rows, step) {
             Some(hoisted) => self.column_by_row(memo, &hoisted.inside, rows, ty, hoisted.step),
@@ -354,15 +282,12 @@ where
         attributes: &[(Name, Ty)],
         steps: &[Step],
     ) -> Result<Vec<(Name, Column)>, Fault>
-        requires below { ValuesBelow A.world self.now (suc (steps_height steps.now)) F.pre F.post }
-        requires ready { IsReadyBelow (A.world self.now.around.now) inside.now.slot
-            (slots_in inside.now.outer.items) memo.old (λ ps. AreSound ps steps.now) }
+        requires below { Below A.world self.now F.pre F.post (over_all steps.now) }
+        requires ready { ReadyInside A.world self.now inside.now memo.old (AllSound steps.now) }
         requires lengths { length attributes.now ≡ length steps.now }
-        ensures { KeepsBelow (A.world self.now.around.now) inside.now.slot
-            (slots_in inside.now.outer.items) memo.old memo.new (λ ps. AreSound ps steps.now)
-            (Answers (λ cs. columns_view cs.items) result (gathered (named_columns
-            (pairs_view attributes.now) (values_in (A.world self.now.around.now)
-            (slots_in inside.now.outer.items) inside.now.slot steps.now) rows.now))) }
+        ensures { KeepsInside A.world self.now inside.now memo.old memo.new (AllSound steps.now)
+            (λ w s k. Answers (λ cs. columns_view cs.items) result (gathered (named_columns
+            (pairs_view attributes.now) (values_in w s k steps.now) rows.now))) }
     {
         let mut causes = Gathering::new();
         let mut columns = Vec::with_capacity(self.alloc, steps.len())?;

@@ -1,11 +1,9 @@
 //! The value of a step.
+ghost use Rattle.td_plan.specs.code.Evaluators.{Below, Ready, Runs, over};
 ghost use Rattle.td_plan.specs.code.Hands.{AreSurroundings, slots_of, world_around};
 ghost use Rattle.td_plan.specs.code.Memos.{IsPart, IsReady, IsSound, Keeps};
 ghost use Rattle.td_plan.specs.code.Runs.{step_value};
-ghost use Rattle.td_plan.specs.code.StepHeights.{step_height};
 ghost use Rattle.td_plan.specs.code.StepViews.{step_view};
-ghost use Rattle.td_plan.specs.code.ValuesBelow.{ValuesBelow};
-ghost use Rattle.std.specs.Prelude.{suc};
 ghost use Rattle.td_tree.specs.Outcomes.{Answers};
 
 use crate::plan::step::{Monadic, Step};
@@ -34,13 +32,11 @@ where
         reach: usize,
         part: &Step,
     ) -> Result<Value, Fault>
-        requires below { ValuesBelow A.world self.now (suc (step_height part.now)) F.pre F.post }
-        requires ready { IsReady (A.world self.now.around.now) (slots_of hand.now) memo.old
-            (λ ps. IsPart ps place reach (step_view part.now) × IsSound ps part.now) }
-        ensures { Keeps (A.world self.now.around.now) (slots_of hand.now) memo.old memo.new
-            (λ ps. IsPart ps place reach (step_view part.now) × IsSound ps part.now)
-            (Answers (λ v. v) result
-            (step_value (A.world self.now.around.now) (slots_of hand.now) part.now)) }
+        requires below { Below A.world self.now F.pre F.post (over part.now) }
+        requires ready { Ready A.world self.now hand.now memo.old (λ ps. IsPart ps place reach
+            (step_view part.now) × IsSound ps part.now) }
+        ensures { Runs A.world self.now hand.now memo.old memo.new (λ ps. IsPart ps place reach
+            (step_view part.now) × IsSound ps part.now) result (step_view part.now) }
     {
         match kept_answer(memo, place) {
             Some(answer) => answer,

@@ -1,15 +1,10 @@
 //! The values of expressions by their plans.
-ghost use Rattle.std.specs.Prelude.{◌≡◌, IfOk, List, map};
-ghost use Rattle.td_check.specs.Scopes.{Scope};
+ghost use Rattle.std.specs.Prelude.{◌≡◌, IfOk};
 ghost use Rattle.td_eval.specs.code.Sights.{tuples_in_hand, world_in};
-ghost use Rattle.td_eval.specs.UnfailingValues.{GivesValues};
-ghost use Rattle.td_eval.specs.Worlds.{World};
 ghost use Rattle.td_plan.specs.code.Hands.{AreSurroundings, slots_in, slots_lent, world_around};
 ghost use Rattle.td_plan.specs.code.PlanViews.{plan_view};
-ghost use Rattle.td_plan.specs.Plans.{plan_value};
-ghost use Rattle.td_plan.specs.PlansOf.{AreInHand, IsPlanFor, outermost};
-ghost use Rattle.td_tree.specs.Outcomes.{Answers, Outcome};
-ghost use Rattle.td_value.specs.Values.{Tuple, Val};
+ghost use Rattle.td_plan.specs.code.Runs.{AnswersPlan};
+ghost use Rattle.td_value.specs.Values.{Tuple};
 
 use crate::plan::Plan;
 use crate::running::hand::hand_of;
@@ -35,45 +30,24 @@ fn tuples_in_slots(alloc: Global, tuples: &[&Tuple]) -> Result<Vec<Option<Tuple>
     Ok(rows)
 }
 
-/// The value of a plan where these tuples are in scope, each in the slot of its place.
-fn run_in<B: Body>(
-    around: &Surroundings<'_, '_, '_, B>,
-    rows: &[Option<Tuple>],
-    plan: &Plan,
-) -> Result<Value, Fault>
-    requires { AreSurroundings around.now }
-    ensures { Answers (λ v. v) result
-        (plan_value (world_around around.now) (slots_in rows.now) (plan_view plan.now)) }
-{
-    let mut memo = new_memo(around.alloc, plan.places)?;
-    run(around, &mut memo, &hand_of(rows), &plan.step)
-}
-
 /// What the plan is for, with the virtual relvars that have been evaluated.
 pub(crate) fn run_plan_in<B: Body>(
     around: &Surroundings<'_, '_, '_, B>,
     plan: &Plan,
 ) -> Result<Value, Fault>
     requires { AreSurroundings around.now }
-    ensures { (scope : Scope) (outcome : World → List Tuple → Outcome Val)
-        → IsPlanFor scope (plan_view plan.now) outcome
-        → GivesValues (world_around around.now) (outermost scope)
-        → AreInHand scope (tuples_in_hand around.now.env.now)
-        → Answers (λ v. v) result
-        (outcome (world_around around.now) (tuples_in_hand around.now.env.now)) }
+    ensures { AnswersPlan (world_around around.now) (tuples_in_hand around.now.env.now)
+        (plan_view plan.now) result }
 {
     let rows = tuples_in_slots(around.alloc, around.env.tuples)?;
-    run_in(around, &rows, plan)
+    let mut memo = new_memo(around.alloc, plan.places)?;
+    run(around, &mut memo, &hand_of(&rows), &plan.step)
 }
 
 /// What the plan is for: of a plan of an expression, the expression's value, or the least of the
 /// causes for which it has none. A virtual relvar is evaluated where the plan names it.
 pub fn run_plan<B: Body>(alloc: Global, env: &Env<'_, B>, plan: &Plan) -> Result<Value, Fault>
-    ensures { (scope : Scope) (outcome : World → List Tuple → Outcome Val)
-        → IsPlanFor scope (plan_view plan.now) outcome
-        → GivesValues (world_in env.now) (outermost scope)
-        → AreInHand scope (tuples_in_hand env.now)
-        → Answers (λ v. v) result (outcome (world_in env.now) (tuples_in_hand env.now)) }
+    ensures { AnswersPlan (world_in env.now) (tuples_in_hand env.now) (plan_view plan.now) result }
 {
     let around = Surroundings {
         alloc,
@@ -89,11 +63,7 @@ pub(crate) fn run_valued<B: Body>(
     env: &Env<'_, B>,
     plan: &Plan,
 ) -> Result<Value, Fault>
-    ensures { (scope : Scope) (outcome : World → List Tuple → Outcome Val)
-        → IsPlanFor scope (plan_view plan.now) outcome
-        → GivesValues (world_in env.now) (outermost scope)
-        → AreInHand scope (tuples_in_hand env.now)
-        → Answers (λ v. v) result (outcome (world_in env.now) (tuples_in_hand env.now)) }
+    ensures { AnswersPlan (world_in env.now) (tuples_in_hand env.now) (plan_view plan.now) result }
 {
     let valued = virtual_relvars(alloc, env, &plan.names)?;
     let around = Surroundings {

@@ -71,10 +71,7 @@ pub(crate) fn add_names<B: Body>(
 
 /// Whether a place is marked.
 fn is_marked(marks: &[bool], place: usize) -> bool {
-    match marks.get(place) {
-        Some(is_asked) => *is_asked,
-        None => false,
-    }
+    marks.get(place).is_some_and(|is_asked| *is_asked)
 }
 
 /// Marks also those that are named, in turn, in the expression of one that is marked. An expression
@@ -146,15 +143,17 @@ fn asked_at<'a, B: Body>(env: &Env<'a, B>, marks: &[bool], place: usize) -> Opti
     if *other == *name { None } else { Some(name) }
 }
 
-/// The values of the marked virtual relvars and of those that they may need: each is evaluated
-/// where those before it have values.
-fn valued_relvars<B: Body>(
+/// The values of the virtual relvars that are among the names, and of those that they need: each
+/// is evaluated where those before it have values.
+pub(crate) fn virtual_relvars<B: Body>(
     alloc: Global,
     env: &Env<'_, B>,
-    mut marks: Vec<bool>,
+    names: &[Name],
 ) -> Result<Vec<ValuedRelvar>, AllocError>
     ensures { IfOk result (λ valued. AreValued (world_in env.now) valued.items) }
 {
+    let mut marks = Vec::new(alloc);
+    mark_all(env.catalog, names, &mut marks)?;
     mark_reached(alloc, env.catalog, &mut marks)?;
     let mut valued = Vec::new(alloc);
     for place in 0..marks.len() {
@@ -166,17 +165,4 @@ fn valued_relvars<B: Body>(
         valued.push(ValuedRelvar { name, answer })?;
     }
     Ok(valued)
-}
-
-/// The values of the virtual relvars that are among the names, and of those that they need.
-pub(crate) fn virtual_relvars<B: Body>(
-    alloc: Global,
-    env: &Env<'_, B>,
-    names: &[Name],
-) -> Result<Vec<ValuedRelvar>, AllocError>
-    ensures { IfOk result (λ valued. AreValued (world_in env.now) valued.items) }
-{
-    let mut marks = Vec::new(alloc);
-    mark_all(env.catalog, names, &mut marks)?;
-    valued_relvars(alloc, env, marks)
 }

@@ -13,7 +13,7 @@ use Rattle.td_plan.proofs.running.memberships.memberships_in.Goals as goal
 
 pub returns-in-Tuple : goal.returns-in-Tuple
 returns-in-Tuple c =
-    let inside = c.args.inside.now in
+    let inside = c.args.batch.now.inside.now in
     let left = c.args.left.now in
     let right = c.args.right.now in
     let names = c.deref.result.now in
@@ -24,7 +24,7 @@ returns-in-Tuple c =
     made.view ∙ ap (λ s. plans.select (selector_view s) (steps_view parts)) c.in-Tuple.is ∙ ap (λ ns. plans.select (plans.tuple ns) (steps_view parts)) (sym c.deref.ensures.value) in
     let value : c.in-Some.value.now ≡ relation_value rel = sym c.value.view_is ∙ ap node_view c.in-Rel.is ∙ ap relation_value (sym c.deref-in-Tuple-2.ensures) in
     IfOk-weaker c.memberships_of.result _ _ (λ found k ps w sound_left sound_right m.
-    membership_inside w inside left right names parts rel c.args.rows.now found tuple
+    membership_inside w inside left right names parts rel c.args.batch.now.rows.now found tuple
     (λ t. subst (λ o. IsQuick (λ (v : Bor Val). v.now) o (value_inside w inside right t)) c.in-Some.is (c.common_value.ensures ps w inside t sound_right m) ∙ ap Valued value)
     (k ps w (made.sound ps sound_left) m))
     c.memberships_of.ensures

@@ -22,18 +22,18 @@ pub loop-row-preserved : goal.loop-row-preserved
 loop-row-preserved c = (
   c.in_ok-put_tuple.ensures.layout c.if-not-branch.false ∙ c.loop-row.invariant.0,
   λ ps w sound m.
-      let inside = c.args.inside.now in
+      let inside = c.args.batch.now.inside.now in
       let row = c.row-item.result in
       let put = c.in_ok-put_tuple.ensures.put c.if-not-branch.false in
       let here = c.hand_inside-hand.ensures in
-      let memo = subst (λ s. IsMemo ps w s c.args.memo.now) (sym here) (m (slots_inside inside row) (agree_below inside.slot (values_of row) (slots_in inside.outer.items))) in
+      let memo = subst (λ s. IsMemo ps w s c.args.batch.now.memo.now) (sym here) (m (slots_inside inside row) (agree_below inside.slot (values_of row) (slots_in inside.outer.items))) in
       let value = subst (λ s. tuple_in_slots w s c.args.names.now c.args.parts.now ≡ Valued (tuple_value put.0)) here (put.2 ps w sound memo) in
-      one_more tuple_value (tuple_inside w inside c.args.names.now c.args.parts.now) c.args.rows.now c.loop-row.row-index row c.loop-row.laid.1 put.0 c.loop-row-test.true c.row-item.is
+      one_more tuple_value (tuple_inside w inside c.args.names.now c.args.parts.now) c.args.batch.now.rows.now c.loop-row.row-index row c.loop-row.laid.1 put.0 c.loop-row-test.true c.row-item.is
       (c.loop-row.invariant.1 ps w sound m) value
       ∙ ap (map (λ t. Valued (tuple_value t))) (sym put.1),
 )
 
 pub returns : goal.returns
 returns c = λ ps w sound m.
-    let f = tuple_inside w c.args.inside.now c.args.names.now c.args.parts.now in
-    ap (map f) (sym (take_all c.loop-row.row-index c.args.rows.now c.loop-row-test.false)) ∙ c.loop-row.invariant.1 ps w sound m ∙ ap (map (λ t. Valued (tuple_value t))) (sym c.in_ok-finish.ensures.made)
+    let f = tuple_inside w c.args.batch.now.inside.now c.args.names.now c.args.parts.now in
+    ap (map f) (sym (take_all c.loop-row.row-index c.args.batch.now.rows.now c.loop-row-test.false)) ∙ c.loop-row.invariant.1 ps w sound m ∙ ap (map (λ t. Valued (tuple_value t))) (sym c.in_ok-finish.ensures.made)

@@ -10,5 +10,5 @@ use Rattle.td_plan.proofs.running.memberships.tuples_of.Given as goal
 abbrev pub invariant-loop-row : goal.invariant-loop-row
 invariant-loop-row l =
     (l.laid.0 ≡ l.layout)
-    × ((ps : Parts) (w : World) → AreSound ps l.parts → IsMemoInside ps w l.inside l.memo
-    → AreInRows tuple_value (tuple_inside w l.inside l.names l.parts) (take l.row-index l.rows) l.laid.1)
+    × ((ps : Parts) (w : World) → AreSound ps l.parts → IsMemoInside ps w l.batch.inside.now l.batch.memo.now
+    → AreInRows tuple_value (tuple_inside w l.batch.inside.now l.names l.parts) (take l.row-index l.batch.rows.now) l.laid.1)

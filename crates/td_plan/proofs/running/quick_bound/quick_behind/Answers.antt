@@ -10,11 +10,11 @@ use Rattle.td_plan.proofs.running.quick_bound.quick_behind.Goals as goal
 
 pub returns : goal.returns
 returns c = λ ps w sound apart m.
-    let inside = c.args.inside.now in
+    let inside = c.args.batch.now.inside.now in
     let s = slots_in inside.outer.items in
     let k = inside.slot in
     let slot = c.args.slot in
-    let memo = c.args.memo.now in
+    let memo = c.args.batch.now.memo.now in
     let items = steps_view c.args.items.now in
     let past = c.if-inside-reach.false in
     let order = c.if-slot-inside.false in

@@ -8,5 +8,5 @@ use Rattle.td_plan.proofs.running.quick_numbers.single_numbers.Given as goal
 
 abbrev pub invariant-loop-row : goal.invariant-loop-row
 invariant-loop-row l =
-    (ps : Parts) (w : World) → IsSound ps l.step → IsMemoInside ps w l.inside l.memo
-    → AreInRows integer (value_inside w l.inside l.step) (take l.row-index l.rows) l.numbers.items
+    (ps : Parts) (w : World) → IsSound ps l.step → IsMemoInside ps w l.batch.inside.now l.batch.memo.now
+    → AreInRows integer (value_inside w l.batch.inside.now l.step) (take l.row-index l.batch.rows.now) l.numbers.items

@@ -6,4 +6,4 @@ use Rattle.td_plan.proofs.running.quick_rows.quick_truths.Goals as goal
 
 pub returns-in-Some : goal.returns-in-Some
 returns-in-Some c = λ ps w sound m.
-    subst (AreQuick boolean (value_inside w c.args.inside.now c.args.condition.now) c.args.rows.now) c.in-Some.is (c.in_ok-truths.ensures ps w sound m)
+    subst (AreQuick boolean (value_inside w c.args.batch.now.inside.now c.args.condition.now) c.args.batch.now.rows.now) c.in-Some.is (c.in_ok-truths.ensures ps w sound m)

@@ -8,5 +8,5 @@ use Rattle.td_plan.proofs.running.quick_rows.single_truths.Given as goal
 
 abbrev pub invariant-loop-row : goal.invariant-loop-row
 invariant-loop-row l =
-    (ps : Parts) (w : World) → IsSound ps l.condition → IsMemoInside ps w l.inside l.memo
-    → AreInRows boolean (value_inside w l.inside l.condition) (take l.row-index l.rows) l.truths.items
+    (ps : Parts) (w : World) → IsSound ps l.condition → IsMemoInside ps w l.batch.inside.now l.batch.memo.now
+    → AreInRows boolean (value_inside w l.batch.inside.now l.condition) (take l.row-index l.batch.rows.now) l.truths.items

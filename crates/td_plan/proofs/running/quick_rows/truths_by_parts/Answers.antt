@@ -10,7 +10,7 @@ loop-rest-init c = λ ps w sound m. rw (c.in_ok-truths.ensures.items) refl
 
 pub loop-rest-preserved : goal.loop-rest-preserved
 loop-rest-preserved c = λ ps w sound m.
-    let f = value_inside w c.args.inside.now c.args.condition.now in
+    let f = value_inside w c.args.batch.now.inside.now c.args.condition.now in
     c.loop-rest.invariant ps w sound m
     ∙ part_more boolean f c.loop-rest.truths.items c.in-Some.found.items c.append.new.self.items c.loop-rest.rest.now c.split_at.result.0.now c.split_at.result.1.now c.split_at.ensures.by_index.0
     (subst (AreQuick boolean f c.split_at.result.0.now) c.in-Some.is (c.in_ok-found.ensures ps w sound m))
@@ -18,4 +18,4 @@ loop-rest-preserved c = λ ps w sound m.
 
 pub returns : goal.returns
 returns c = λ ps w sound m.
-    c.loop-rest.invariant ps w sound m ∙ no_rest boolean (value_inside w c.args.inside.now c.args.condition.now) c.loop-rest.truths.items c.loop-rest.rest.now (sym c.is_empty.ensures ∙ c.loop-rest-test.false)
+    c.loop-rest.invariant ps w sound m ∙ no_rest boolean (value_inside w c.args.batch.now.inside.now c.args.condition.now) c.loop-rest.truths.items c.loop-rest.rest.now (sym c.is_empty.ensures ∙ c.loop-rest-test.false)

@@ -8,8 +8,8 @@ use Rattle.td_plan.proofs.running.quick_rows.truths_by_parts.Given as goal
 
 abbrev pub invariant-loop-rest : goal.invariant-loop-rest
 invariant-loop-rest l =
-    (ps : Parts) (w : World) → IsSound ps l.condition → IsMemoInside ps w l.inside l.memo
-    → map (value_inside w l.inside l.condition) l.rows ≡ map (λ b. Valued (boolean b)) l.truths.items ++ map (value_inside w l.inside l.condition) l.rest
+    (ps : Parts) (w : World) → IsSound ps l.condition → IsMemoInside ps w l.batch.inside.now l.batch.memo.now
+    → map (value_inside w l.batch.inside.now l.condition) l.batch.rows.now ≡ map (λ b. Valued (boolean b)) l.truths.items ++ map (value_inside w l.batch.inside.now l.condition) l.rest
 
 abbrev pub decreases-loop-rest : goal.decreases-loop-rest
 decreases-loop-rest l = length l.rest

@@ -40,7 +40,7 @@ loop-place-preserved g c = λ ps sound m.
       collected_next total_view (total_of c.args.groups.now) items l.place
           (omega (arith, count, inside))
           (item_at w c.args.aggregates.now c.args.steps.now s k l.place c.aggregate_at-asked.result c.index-steps-place.result inside (sym (get_or_from_slice_get c.args.aggregates.now l.place c.aggregate_at-asked.result c.aggregate_at-asked.result c.aggregate_at-asked.ensures)) c.index-steps-place.is)
-          a.0 (c.with_aggregate-total.ensures _ b.0) c.in_ok-collect.ensures,
+          a.0 (c.with_aggregate.ensures _ b.0) c.in_ok-collect.ensures,
       b.1,
     )
 

@@ -1,7 +1,7 @@
 use Rattle.td_eval.specs.DatabaseWorlds.{world_of}
 use Rattle.td_eval.specs.code.Sights.{world_in}
 use Rattle.td_plan.proofs.VirtualRelvars.{valued_in_both}
-use Rattle.td_plan.proofs.running.virtuals.valued_relvars.Goals as goal
+use Rattle.td_plan.proofs.running.virtuals.virtual_relvars.Goals as goal
 
 pub loop-place-preserved : goal.loop-place-preserved
 loop-place-preserved g c =

@@ -1,7 +1,7 @@
 use Rattle.td_eval.specs.DatabaseWorlds.{world_of}
 use Rattle.td_eval.specs.code.Sights.{world_in}
 use Rattle.td_plan.specs.code.Hands.{AreValued}
-use Rattle.td_plan.proofs.running.virtuals.valued_relvars.Given as goal
+use Rattle.td_plan.proofs.running.virtuals.virtual_relvars.Given as goal
 
 abbrev pub invariant-loop-place : goal.invariant-loop-place
 invariant-loop-place g l = AreValued (world_of l.env.catalog.now.database) l.valued.items × AreValued (world_in l.env) l.valued.items

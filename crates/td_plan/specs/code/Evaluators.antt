@@ -1,0 +1,96 @@
+-- What evaluators need of what is kept, and what they leave kept (this project's own).
+use Rattle.std.specs.Borrow.{Bor, MutBor}
+use Rattle.std.specs.Prelude.{ℕ, List, Option, Result, max, suc}
+use Rattle.td_eval.specs.Worlds.{World}
+use Rattle.td_plan.specs.declared.plan.step.Step.{Step}
+use Rattle.td_plan.specs.declared.running.evaluator.Evaluator.{Evaluator}
+use Rattle.td_plan.specs.declared.running.hand.Hand.{Hand}
+use Rattle.td_plan.specs.declared.running.hand.Inside.{Inside}
+use Rattle.td_plan.specs.declared.running.memo.Memo.{Memo}
+use Rattle.td_plan.specs.Plans.{PlanTree, Slots, plan_value}
+use Rattle.td_plan.specs.code.Hands.{slots_in, slots_of}
+use Rattle.td_plan.specs.code.Memos.{AreSound, IsMemo, IsReady, IsReadyBelow, IsSound, Keeps, KeepsBelow, Parts}
+use Rattle.td_plan.specs.code.StepHeights.{step_height, steps_height}
+use Rattle.td_plan.specs.code.ValuesBelow.{ValuesBelow}
+use Rattle.td_tree.specs.declared.fault.Fault.{Fault}
+use Rattle.td_tree.specs.Outcomes.{Answers}
+use Rattle.td_value.specs.Values.{Tuple, Val}
+
+-- ---- heights above those of steps
+
+abbrev pub over : Step → ℕ
+over step = suc (step_height step)
+
+abbrev pub over_all : List Step → ℕ
+over_all steps = suc (steps_height steps)
+
+abbrev pub over_two : Step → Step → ℕ
+over_two first second = suc (max (step_height first) (step_height second))
+
+abbrev pub over_with : Step → List Step → ℕ
+over_with first steps = suc (max (step_height first) (steps_height steps))
+
+abbrev pub over_behind : List Step → Step → ℕ
+over_behind items value = suc (max (steps_height items) (step_height value))
+
+-- the steps that are lower than this may be evaluated
+abbrev pub Below : {A F : Type 0} → (A → World) → Evaluator A F
+    → (F → Bor A → MutBor Memo → Bor Hand → Bor Step → Type 0)
+    → (F → Bor A → MutBor Memo → Bor Hand → Bor Step → Result Val Fault → MutBor Memo → Type 0) → ℕ → Type 0
+Below world e pre post height = ValuesBelow world e height pre post
+
+-- ---- parts of which steps are sound
+
+abbrev pub Sound : Step → Parts → Type 0
+Sound step ps = IsSound ps step
+
+abbrev pub AllSound : List Step → Parts → Type 0
+AllSound steps ps = AreSound ps steps
+
+abbrev pub Two : Step → Step → Parts → Type 0
+Two first second ps = IsSound ps first × IsSound ps second
+
+abbrev pub With : Step → List Step → Parts → Type 0
+With first steps ps = IsSound ps first × AreSound ps steps
+
+abbrev pub Behind : List Step → Step → Parts → Type 0
+Behind items value ps = AreSound ps items × IsSound ps value
+
+-- ---- what is kept
+
+-- it is right where these tuples are in scope
+abbrev pub Ready : {A F : Type 0} → (A → World) → Evaluator A F → Hand → Memo → (Parts → Type 0) → Type 0
+Ready world e hand memo are = IsReady (world e.around.now) (slots_of hand) memo are
+
+-- it is right where these tuples are in their slots
+abbrev pub ReadyIn : {A F : Type 0} → (A → World) → Evaluator A F → List (Option Tuple) → Memo → (Parts → Type 0) → Type 0
+ReadyIn world e rows memo are = IsReady (world e.around.now) (slots_in rows) memo are
+
+-- it is right in each tuple of the loop
+abbrev pub ReadyInside : {A F : Type 0} → (A → World) → Evaluator A F → Inside → Memo → (Parts → Type 0) → Type 0
+ReadyInside world e inside memo are = IsReadyBelow (world e.around.now) inside.slot (slots_in inside.outer.items) memo are
+
+-- it stays right, and this holds in the world with these slots
+abbrev pub KeepsFor : {A F : Type 0} → (A → World) → Evaluator A F → Hand → Memo → Memo → (Parts → Type 0)
+    → (World → Slots → Type 0) → Type 0
+KeepsFor world e hand old new are claim =
+    Keeps (world e.around.now) (slots_of hand) old new are (claim (world e.around.now) (slots_of hand))
+
+-- it stays right, and the answer is what the plan gives there
+abbrev pub Runs : {A F : Type 0} → (A → World) → Evaluator A F → Hand → Memo → Memo → (Parts → Type 0)
+    → Result Val Fault → PlanTree → Type 0
+Runs world e hand old new are answer plan =
+    KeepsFor world e hand old new are (λ w s. Answers (λ v. v) answer (plan_value w s plan))
+
+-- where it is right, and the steps are sound, this holds of what comes of putting tuples into slots
+abbrev pub Puts : {A F : Type 0} → (A → World) → Evaluator A F → List (Option Tuple) → Memo → (Parts → Type 0)
+    → (Parts → World → Slots → Type 0) → Type 0
+Puts world e rows memo are claim =
+    (ps : Parts) → are ps → IsMemo ps (world e.around.now) (slots_in rows) memo → claim ps (world e.around.now) (slots_in rows)
+
+-- it stays right in each tuple of the loop, and this holds in the world with the slots outside of the loop and the loop's slot
+abbrev pub KeepsInside : {A F : Type 0} → (A → World) → Evaluator A F → Inside → Memo → Memo → (Parts → Type 0)
+    → (World → Slots → ℕ → Type 0) → Type 0
+KeepsInside world e inside old new are claim =
+    KeepsBelow (world e.around.now) inside.slot (slots_in inside.outer.items) old new are
+    (claim (world e.around.now) (slots_in inside.outer.items) inside.slot)
