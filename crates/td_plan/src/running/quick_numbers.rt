@@ -1,6 +1,6 @@
 //! Numbers that a step gives in all tuples of a relation, found without causes. Where one is not
 //! found so, there is nothing.
-ghost use Rattle.std.specs.Prelude.{◌≡◌, ◌<◌, IfOk, List, Some, length};
+ghost use Rattle.std.specs.Prelude.{◌≡◌, IfOk, List, length};
 ghost use Rattle.std.specs.List.{slice_get};
 ghost use Rattle.td_eval.specs.OperatorValues.{operator_value};
 ghost use Rattle.td_plan.specs.Plans.{value_or};
@@ -61,15 +61,6 @@ fn single_numbers(batch: &Batch<'_>, step: &Step) -> Found<i64>
     Ok(Some(numbers))
 }
 
-/// The number at a place.
-#[inline]
-pub(crate) fn number_at(numbers: &[i64], place: usize) -> i64
-    requires { place < length numbers.now }
-    ensures { slice_get numbers.now place ≡ Some result }
-{
-    numbers[place]
-}
-
 /// The numbers that an operator gives of two at each place.
 fn numbers_of_both(alloc: Global, op: Operator, left: &[i64], right: &[i64]) -> Found<i64>
     ensures { IfOk result (AreOfBoth integer integer (operator_value op) left.now right.now) }
@@ -79,8 +70,8 @@ fn numbers_of_both(alloc: Global, op: Operator, left: &[i64], right: &[i64]) -> 
     }
     let mut numbers = Vec::with_capacity(alloc, right.len())?;
     for place in 0..right.len() {
-        let x = number_at(left, place);
-        let y = number_at(right, place);
+        let x = left[place];
+        let y = right[place];
         let Some(z) = numbers_operated(op, x, y) else {
             return Ok(None);
         };

@@ -1,7 +1,6 @@
 //! Truth values of a condition in all tuples of a relation, found without causes. Where one is not
 //! found so, there is nothing.
-ghost use Rattle.std.specs.Prelude.{◌≡◌, ◌<◌, IfOk, List, Some, length};
-ghost use Rattle.std.specs.List.{slice_get};
+ghost use Rattle.std.specs.Prelude.{IfOk, List};
 ghost use Rattle.td_eval.specs.OperatorValues.{comparison_value, operator_value, prefix_value};
 ghost use Rattle.td_plan.specs.code.Quick.{AreInRows, AreOfBoth, AreQuick};
 ghost use Rattle.td_plan.specs.code.QuickInside.{AreComparedIn, FoundIn};
@@ -14,7 +13,7 @@ use crate::running::hand::{Batch, Found, hand_inside};
 use crate::running::memberships::memberships;
 use crate::running::quick::{numbers_compared, quick_truth, truths_operated};
 use crate::running::quick_bound::quick_behind;
-use crate::running::quick_numbers::{number_at, quick_numbers};
+use crate::running::quick_numbers::quick_numbers;
 use std::alloc::{AllocError, Global};
 use td_tree::operator::{Comparison, Operator, Prefix};
 use td_value::tuple::Tuple;
@@ -49,23 +48,14 @@ fn comparisons_of_both(alloc: Global, op: Comparison, left: &[i64], right: &[i64
     }
     let mut truths = Vec::with_capacity(alloc, right.len())?;
     for place in 0..right.len() {
-        let x = number_at(left, place);
-        let y = number_at(right, place);
+        let x = left[place];
+        let y = right[place];
         let Some(truth) = numbers_compared(op, x, y) else {
             return Ok(None);
         };
         truths.push(truth)?;
     }
     Ok(Some(truths))
-}
-
-/// The truth value at a place.
-#[inline]
-fn truth_at(truths: &[bool], place: usize) -> bool
-    requires { place < length truths.now }
-    ensures { slice_get truths.now place ≡ Some result }
-{
-    truths[place]
 }
 
 /// The truth values that an operator gives of two at each place.
@@ -77,8 +67,8 @@ fn truths_of_both(alloc: Global, op: Operator, left: &[bool], right: &[bool]) ->
     }
     let mut truths = Vec::with_capacity(alloc, right.len())?;
     for place in 0..right.len() {
-        let a = truth_at(left, place);
-        let b = truth_at(right, place);
+        let a = left[place];
+        let b = right[place];
         let Some(truth) = truths_operated(op, a, b) else {
             return Ok(None);
         };

@@ -4,7 +4,6 @@ ghost use Rattle.td_eval.specs.code.Sights.{tuples_in_hand, world_in};
 ghost use Rattle.td_plan.specs.code.Hands.{AreSurroundings, slots_in, slots_lent, world_around};
 ghost use Rattle.td_plan.specs.code.PlanViews.{plan_view};
 ghost use Rattle.td_plan.specs.code.Runs.{AnswersPlan};
-ghost use Rattle.td_value.specs.Values.{Tuple};
 
 use crate::plan::Plan;
 use crate::running::hand::hand_of;

@@ -1,7 +1,6 @@
-use Rattle.std.proofs.Common.{◌∙◌, FitsSigned, ap, arith, map, rules, subst, sym}
+use Rattle.std.proofs.Common.{◌∙◌, FitsSigned, ap, arith, map, rules, subst, sym, get_or, pos}
 use Rattle.std.proofs.lemmas.Int.{to_z-of_z}
-use Rattle.std.proofs.lemmas.List.{take_all}
-use Rattle.std.proofs.lemmas.Option.{get_or_from_slice_get}
+use Rattle.std.proofs.lemmas.List.{get_or_default, take_all}
 use mir.Syntax.{w64}
 use Rattle.std.specs.List.{zip}
 use Rattle.td_eval.proofs.code_lemmas.WalkedColumns.{beside_at, beside_past, beside_within}
@@ -11,20 +10,17 @@ use Rattle.td_plan.specs.code.Quick.{IsQuick}
 use Rattle.td_value.specs.Values.{boolean, integer}
 use Rattle.td_plan.proofs.running.quick_rows.comparisons_of_both.Goals as goal
 
-pub number_at-x-requires : goal.number_at-x-requires
-number_at-x-requires c = omega (arith, c.if-left-right.false, c.loop-place-test.true)
-
 pub loop-place-preserved : goal.loop-place-preserved
 loop-place-preserved c =
-    let x = c.number_at-x.result in
-    let y = c.number_at-y.result in
+    let x = get_or c.args.left.now c.loop-place.place (pos 0) in
+    let y = get_or c.args.right.now c.loop-place.place (pos 0) in
     let fits_x : FitsSigned w64 x = search rules in
     let fits_y : FitsSigned w64 y = search rules in
     rw (c.in_ok-push.ensures.items)
     (one_more boolean (of_two integer (comparison_value c.args.op)) (zip c.args.left.now c.args.right.now) c.loop-place.place (x, y) c.loop-place.truths.items c.in-Some.truth
     (beside_within c.args.left.now c.args.right.now c.loop-place.place (omega (arith, c.if-left-right.false)) c.loop-place-test.true)
     (beside_at c.args.left.now c.args.right.now c.loop-place.place x y (omega (arith, c.if-left-right.false)) c.loop-place-test.true
-    (sym (get_or_from_slice_get c.args.left.now c.loop-place.place x x c.number_at-x.ensures)) (sym (get_or_from_slice_get c.args.right.now c.loop-place.place y y c.number_at-y.ensures)))
+    (get_or_default c.args.left.now c.loop-place.place (pos 0) x (omega (arith, c.if-left-right.false, c.loop-place-test.true))) (get_or_default c.args.right.now c.loop-place.place (pos 0) y c.loop-place-test.true))
     c.loop-place.invariant
     (subst (λ found. IsQuick boolean found (comparison_value c.args.op (integer x) (integer y))) c.in-Some.is
     (rw (to_z-of_z w64 x fits_x, to_z-of_z w64 y fits_y) at c.numbers_compared.ensures)))

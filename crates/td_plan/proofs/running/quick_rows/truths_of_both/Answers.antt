@@ -1,6 +1,5 @@
-use Rattle.std.proofs.Common.{◌∙◌, ap, arith, map, subst, sym}
-use Rattle.std.proofs.lemmas.List.{take_all}
-use Rattle.std.proofs.lemmas.Option.{get_or_from_slice_get}
+use Rattle.std.proofs.Common.{◌∙◌, ap, arith, map, subst, sym, get_or, false}
+use Rattle.std.proofs.lemmas.List.{get_or_default, take_all}
 use Rattle.std.specs.List.{zip}
 use Rattle.td_eval.proofs.code_lemmas.WalkedColumns.{beside_at, beside_past, beside_within}
 use Rattle.td_eval.specs.OperatorValues.{operator_value}
@@ -9,18 +8,15 @@ use Rattle.td_plan.specs.code.Quick.{IsQuick}
 use Rattle.td_value.specs.Values.{boolean}
 use Rattle.td_plan.proofs.running.quick_rows.truths_of_both.Goals as goal
 
-pub truth_at-a-requires : goal.truth_at-a-requires
-truth_at-a-requires c = omega (arith, c.if-left-right.false, c.loop-place-test.true)
-
 pub loop-place-preserved : goal.loop-place-preserved
 loop-place-preserved c =
-    let x = c.truth_at-a.result in
-    let y = c.truth_at-b.result in
+    let x = get_or c.args.left.now c.loop-place.place false in
+    let y = get_or c.args.right.now c.loop-place.place false in
     rw (c.in_ok-push.ensures.items)
     (one_more boolean (of_two boolean (operator_value c.args.op)) (zip c.args.left.now c.args.right.now) c.loop-place.place (x, y) c.loop-place.truths.items c.in-Some.truth
     (beside_within c.args.left.now c.args.right.now c.loop-place.place (omega (arith, c.if-left-right.false)) c.loop-place-test.true)
     (beside_at c.args.left.now c.args.right.now c.loop-place.place x y (omega (arith, c.if-left-right.false)) c.loop-place-test.true
-    (sym (get_or_from_slice_get c.args.left.now c.loop-place.place x x c.truth_at-a.ensures)) (sym (get_or_from_slice_get c.args.right.now c.loop-place.place y y c.truth_at-b.ensures)))
+    (get_or_default c.args.left.now c.loop-place.place false x (omega (arith, c.if-left-right.false, c.loop-place-test.true))) (get_or_default c.args.right.now c.loop-place.place false y c.loop-place-test.true))
     c.loop-place.invariant
     (subst (λ found. IsQuick boolean found (operator_value c.args.op (boolean x) (boolean y))) c.in-Some.is c.truths_operated.ensures))
 
