@@ -1,26 +1,23 @@
 -- Assignments whose expressions may be valued by plans, since their targets hold typed relations so far.
-use Rattle.std.proofs.Common.{◌≡◌, ◌∙◌, ◌∷◌, ℕ, true, List, [], Option, Some, None, ap, map, option_map, refl, subst, sym}
+use Rattle.std.proofs.Common.{◌≡◌, ◌∙◌, ◌∷◌, ℕ, true, List, [], Option, Some, None, ap, map, refl, subst, sym}
 use Rattle.std.specs.List.{AllByRecursion}
 use Rattle.td_catalog.specs.Database.{BaseRelvar, Database, base_named, database_scope}
 use Rattle.td_check.specs.OperatorTypes.{known_or, over_relation, restriction_type, same_type}
 use Rattle.td_check.specs.Scopes.{entered_with, known_relvar}
 use Rattle.td_check.specs.StatementTypes.{both_hold, condition_fits, is_target, source_fits, type_if_given}
 use Rattle.td_check.specs.StaticTypes.{named_types, type_of}
-use Rattle.td_engine.proofs.law_lemmas.Admitted.{both_asked}
-use Rattle.td_engine.proofs.code_lemmas.DeletedTuples.{same_world}
-use Rattle.td_engine.proofs.law_lemmas.GivenValues.{database_gives, source_gives}
+use Rattle.td_engine.proofs.law_lemmas.GivenValues.{source_gives}
 use Rattle.td_engine.proofs.law_lemmas.TypedGifts.{AreChecked, checked_condition, checked_setting_condition, checked_settings, checked_source, chosen_like, is_base, statement_each_checked}
 use Rattle.td_engine.proofs.law_lemmas.WrittenStatements.{AreWritten, statement_written}
 use Rattle.td_engine.specs.Assignments.{chosen_for, source_world, target_of}
 use Rattle.td_engine.specs.code.Carried.{IsAdmitted}
 use Rattle.td_engine.specs.code.Gifts.{IsGift}
 use Rattle.td_engine.specs.Legality.{IsLegal}
-use Rattle.td_engine.specs.code.Plannable.{ArePlannableSettings, IsAdmittedAssignment, IsPlannable, IsPlannableAssignment, IsPlannableConditionIf, IsPlannableIf, IsPlannableSource}
+use Rattle.td_engine.specs.code.Plannable.{ArePlannableSettings, IsAdmittedAssignment, IsPlannableAssignment, IsPlannableConditionIf, IsPlannableSource}
 use Rattle.td_eval.proofs.code_lemmas.KeepsGathered.{all_from_members}
 use Rattle.td_eval.proofs.code_lemmas.KeepsRelations.{IsTypedRelation, value_from_typed}
 use Rattle.td_eval.proofs.law_lemmas.KnownRelvars.{known_as_base}
 use Rattle.td_eval.proofs.code_lemmas.TypedRows.{rows_typed}
-use Rattle.td_eval.specs.DatabaseWorlds.{world_of}
 use Rattle.td_eval.specs.ValueTypes.{IsTypedTuple}
 use Rattle.td_tree.specs.declared.cause.Cause.TheVariants as causes
 use Rattle.td_tree.specs.declared.operator.Style.{Style}

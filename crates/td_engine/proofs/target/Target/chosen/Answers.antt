@@ -1,4 +1,4 @@
-use Rattle.std.proofs.Common.{◌∙◌, [], Some, option_map, subst, sym}
+use Rattle.std.proofs.Common.{[], option_map, subst, sym}
 use Rattle.td_engine.proofs.code_lemmas.Environments.{valued_there}
 use Rattle.td_engine.proofs.code_lemmas.TargetChanges.{target_headed}
 use Rattle.td_engine.specs.code.Plannable.{IsPlannableConditionIf}

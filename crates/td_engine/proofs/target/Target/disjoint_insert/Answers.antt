@@ -1,4 +1,4 @@
-use Rattle.std.proofs.Common.{◌≡◌, ◌∙◌, ap, false, subst, sym, true}
+use Rattle.std.proofs.Common.{◌≡◌, ◌∙◌, ap, false, sym, true}
 use Rattle.std.proofs.lemmas.Result.{err_from_is_err_and}
 use Rattle.td_algebra.specs.Operators.{is_disjoint}
 use Rattle.td_engine.proofs.code_lemmas.TestedChanges.{not_apart, other_way, put_apart}

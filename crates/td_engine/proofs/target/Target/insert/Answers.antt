@@ -1,4 +1,3 @@
-use Rattle.std.proofs.Common.{◌≡◌, ◌∙◌, ap}
 use Rattle.std.proofs.lemmas.Result.{err_from_is_err_and}
 use Rattle.td_engine.proofs.law_lemmas.Admitted.{refused_on}
 use Rattle.td_engine.proofs.code_lemmas.TargetChanges.{inserted}
