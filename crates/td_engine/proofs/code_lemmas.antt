@@ -1,6 +1,7 @@
 pub mod AddedTuples
 pub mod Advances
 pub mod DeletedTuples
+pub mod Environments
 pub mod Done
 pub mod Endings
 pub mod FirstGifts
@@ -16,6 +17,7 @@ pub mod PlannableAssignments
 pub mod Plannables
 pub mod PutGifts
 pub mod StageLaws
+pub mod TargetChanges
 pub mod TestedChanges
 pub mod ToldLaws
 pub mod Turning

@@ -5,5 +5,6 @@ pub mod Plannable
 pub mod Restrictions
 pub mod Stages
 pub mod Steps
+pub mod Targets
 pub mod Transactions
 pub mod Turns

@@ -13,13 +13,13 @@ ghost use Rattle.td_engine.specs.Changes.{AreChanges, AreTypedChanges, IsChangeO
 ghost use Rattle.td_engine.specs.Changes.{IsOfHeading, changed_by, given_as};
 ghost use Rattle.td_engine.specs.Changes.{gift_over, given_in};
 ghost use Rattle.td_engine.specs.Checks.{BasesHold, base_check, first_refusal};
-ghost use Rattle.td_engine.specs.code.Gifts.{AreGifts, gift_of, gifted_bases};
+ghost use Rattle.td_engine.specs.code.Gifts.{AreGifts, IsGift, gift_of, gifted_bases};
 ghost use Rattle.td_engine.specs.LeftOut.{PassesElsewhere};
 ghost use Rattle.td_engine.specs.Machine.{by_outcome, checked_effect};
 ghost use Rattle.td_engine.specs.Legality.{IsLegal};
-ghost use Rattle.td_engine.specs.code.Plannable.{IsAdmittedAssignment, IsPlannableAssignment};
-ghost use Rattle.td_engine.specs.code.Plannable.{LeavesGift};
+ghost use Rattle.td_engine.specs.code.Plannable.{IsAdmittedAssignment};
 ghost use Rattle.td_engine.specs.code.Stages.{GoesOn};
+ghost use Rattle.td_engine.specs.code.Targets.{IsTarget};
 ghost use Rattle.td_eval.specs.ReachedRelvars.{reached_from};
 ghost use Rattle.td_tree.specs.Outcomes.{Answers};
 ghost use Rattle.td_tree.specs.code.TreeViews.{assignment_view, statement_view};
@@ -28,109 +28,100 @@ ghost use Rattle.td_value.specs.Values.{IsRelation};
 
 use crate::added::Added;
 use crate::change::Change;
-use crate::checks::{check_after, entry_keys_hold, reached_from};
+use crate::checks::{check_after, entry_keys_hold};
 use crate::definitions::failure_of;
-use crate::first_changes::{first_delete, first_update, put_in, put_in_apart, take_out};
+use crate::reached::reached_from;
 use crate::refusal::{Failure, Refusal};
-use crate::updates::{change_of, target_of};
+use crate::target::Target;
 use indexmap::IndexMap;
 use std::alloc::{AllocError, Global};
 use td_body::body::Body;
 use td_catalog::catalog::Catalog;
-use td_catalog::entry::BaseEntry;
 use td_tree::cause::Cause;
 use td_tree::fault::Fault;
 use td_tree::name::Name;
 use td_tree::statement::{Assignment, Statement};
+use td_value::relation::Rel;
 
 // ---- what targets are given
 
-/// What an assignment changes of what a base relvar holds.
-fn change_over<B: Body>(
-    alloc: Global,
-    catalog: &Catalog<B>,
-    entry: &BaseEntry<B>,
-    assignment: &Assignment,
-) -> Result<Change, Fault>
-    requires { IsPlannableAssignment catalog.now.database (B.relation entry.now.body)
-        (assignment_view assignment.now) }
-    ensures answer { Answers (λ c. changed_by c (B.relation entry.now.body)) result
-        (gift_over catalog.now.database (B.relation entry.now.body)
-        (assignment_view assignment.now)) }
-    ensures headings { IfOk result (IsOfHeading (B.relation entry.now.body).heading) }
+/// The name of the target.
+fn target_of(assignment: &Assignment) -> &Name
+    ensures { result.now ≡ target_of (assignment_view assignment.now) }
 {
-    let so_far = entry.body.to_rel()?;
-    change_of(alloc, catalog, &so_far, assignment)
-}
-
-/// What the first assignment to a target changes.
-fn first_change<B: Body>(
-    alloc: Global,
-    catalog: &Catalog<B>,
-    assignment: &Assignment,
-) -> Result<Change, Fault>
-    requires legal { IsLegal catalog.now.database }
-    requires admitted { IsAdmittedAssignment catalog.now.database (assignment_view assignment.now) }
-    ensures answer { Answers
-        (given_as catalog.now.database (target_of (assignment_view assignment.now))) result
-        (gift_of catalog.now.database [] (assignment_view assignment.now)) }
-    ensures change { IfOk result (λ c.
-        IsChangeOf catalog.now.database (target_of (assignment_view assignment.now), c)) }
-{
-    let Some(entry) = catalog.get_base(target_of(assignment)) else {
-        return Err(Fault::Refused(Cause::NameUnknown));
-    };
     match assignment {
-        Assignment::Assign(..) => change_over(alloc, catalog, entry, assignment),
-        Assignment::Insert(_, source) => put_in(alloc, catalog, &entry.heading, source),
-        Assignment::DisjointInsert(_, source) => put_in_apart(alloc, catalog, entry, source),
-        Assignment::IncludedDelete(_, source) => take_out(alloc, catalog, entry, source),
-        Assignment::Delete(target, condition) => {
-            first_delete(alloc, catalog, entry, target, condition.as_ref())
-        }
-        Assignment::Update(_, target, condition, settings) => {
-            let condition = condition.as_ref();
-            first_update(alloc, catalog, entry, target, condition, settings)
-        }
+        Assignment::Assign(target, _)
+        | Assignment::Insert(target, _)
+        | Assignment::DisjointInsert(target, _)
+        | Assignment::Delete(target, _)
+        | Assignment::IncludedDelete(target, _)
+        | Assignment::Update(_, target, _, _) => target,
     }
 }
 
-/// What a later one changes, with what was changed before.
+/// What an assignment changes of a target that was given a relation before.
+fn change_of_given<'c, B: Body>(
+    target: &Target<'c, B>,
+    relation: &'c Rel,
+    assignment: &Assignment,
+) -> Result<Change, Fault>
+    requires legal { IsLegal target.now.catalog.now.database }
+    requires admitted { IsAdmittedAssignment target.now.catalog.now.database
+        (assignment_view assignment.now) }
+    requires target { IsTarget B.relation B.keys target.now }
+    requires named { target_of (assignment_view assignment.now) ≡ target.now.name.now }
+    requires gift { IsGift target.now.catalog.now.database
+        (target.now.name.now, relation.now) }
+    ensures answer { Answers (λ c. changed_by c relation.now) result
+        (gift_over target.now.catalog.now.database relation.now
+        (assignment_view assignment.now)) }
+    ensures headings { IfOk result (IsOfHeading relation.now.heading) }
+{
+    let given = Some(relation);
+    let target = Target {
+        alloc: target.alloc,
+        catalog: target.catalog,
+        name: target.name,
+        entry: target.entry,
+        given,
+    };
+    target.change(assignment)
+}
+
+/// What a later assignment changes of a target, with what was changed before.
 fn next_change<B: Body>(
-    alloc: Global,
-    catalog: &Catalog<B>,
+    target: &Target<'_, B>,
     change: &Change,
     assignment: &Assignment,
 ) -> Result<Change, Fault>
-    requires legal { IsLegal catalog.now.database }
-    requires admitted { IsAdmittedAssignment catalog.now.database (assignment_view assignment.now) }
-    requires change { IsChangeOf catalog.now.database
-        (target_of (assignment_view assignment.now), change.now) }
-    requires gift { LeavesGift catalog.now.database
-        (target_of (assignment_view assignment.now), change.now) }
-    ensures answer { Answers
-        (given_as catalog.now.database (target_of (assignment_view assignment.now))) result
-        (gift_over catalog.now.database (given_as catalog.now.database
-        (target_of (assignment_view assignment.now)) change.now)
+    requires legal { IsLegal target.now.catalog.now.database }
+    requires admitted { IsAdmittedAssignment target.now.catalog.now.database
+        (assignment_view assignment.now) }
+    requires target { IsTarget B.relation B.keys target.now }
+    requires named { target_of (assignment_view assignment.now) ≡ target.now.name.now }
+    requires change { IsOfHeading (B.relation target.now.entry.now.body).heading change.now }
+    requires gift { IsGift target.now.catalog.now.database (target.now.name.now,
+        changed_by change.now (B.relation target.now.entry.now.body)) }
+    ensures answer { Answers (λ c. changed_by c (B.relation target.now.entry.now.body)) result
+        (gift_over target.now.catalog.now.database
+        (changed_by change.now (B.relation target.now.entry.now.body))
         (assignment_view assignment.now)) }
-    ensures change { IfOk result (λ c.
-        IsChangeOf catalog.now.database (target_of (assignment_view assignment.now), c)) }
+    ensures headings { IfOk result
+        (IsOfHeading (B.relation target.now.entry.now.body).heading) }
 {
-    let Some(entry) = catalog.get_base(target_of(assignment)) else {
-        return Err(Fault::Refused(Cause::NameUnknown));
-    };
-    let earlier = entry.body.to_rel()?;
-    let so_far = change.after(alloc, &earlier)?;
-    let next = change_of(alloc, catalog, &so_far, assignment)?;
-    Ok(Change::between(alloc, &earlier, &next.after(alloc, &so_far)?)?)
+    let earlier = target.entry.body.to_rel()?;
+    let so_far = change.after(target.alloc, &earlier)?;
+    let next = change_of_given(target, &so_far, assignment)?;
+    let given = next.after(target.alloc, &so_far)?;
+    Ok(Change::between(target.alloc, &earlier, &given)?)
 }
 
 /// What an assignment changes of its target.
-fn gift<B: Body>(
+fn gift<'c, B: Body>(
     alloc: Global,
-    catalog: &Catalog<B>,
+    catalog: &'c Catalog<B>,
     given: &IndexMap<Name, Change>,
-    assignment: &Assignment,
+    assignment: &'c Assignment,
 ) -> Result<Change, Fault>
     requires legal { IsLegal catalog.now.database }
     requires admitted { IsAdmittedAssignment catalog.now.database (assignment_view assignment.now) }
@@ -144,9 +135,21 @@ fn gift<B: Body>(
     ensures change { IfOk result (λ c.
         IsChangeOf catalog.now.database (target_of (assignment_view assignment.now), c)) }
 {
-    match given.get(target_of(assignment)) {
-        None => first_change(alloc, catalog, assignment),
-        Some(change) => next_change(alloc, catalog, change, assignment),
+    let name = target_of(assignment);
+    let Some(entry) = catalog.get_base(name) else {
+        return Err(Fault::Refused(Cause::NameUnknown));
+    };
+    let nothing: Option<&'c Rel> = None;
+    let target = Target {
+        alloc,
+        catalog,
+        name,
+        entry,
+        given: nothing,
+    };
+    match given.get(name) {
+        None => target.change(assignment),
+        Some(change) => next_change(&target, change, assignment),
     }
 }
 

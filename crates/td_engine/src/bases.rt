@@ -21,10 +21,11 @@ ghost use Rattle.td_value.specs.Values.{Val};
 ghost use Rattle.td_value.specs.code.Views.{relation_view};
 
 use crate::beside::beside;
-use crate::checks::{keys_hold, value};
+use crate::change::{empty_like, empty_of};
+use crate::checks::keys_hold;
 use crate::definitions::failure_of;
+use crate::evaluation::{relation_of, value};
 use crate::refusal::{Failure, Refusal};
-use crate::updates::relation_of;
 use std::alloc::{AllocError, Global};
 use td_body::body::Body;
 use td_catalog::catalog::Catalog;
@@ -51,10 +52,9 @@ fn init_relation<B: Body>(
     ensures { Answers (λ r. r) result (init_relation catalog.now.database
         (option_map (λ e. tree_view e.now) init.entry) heading) }
 {
-    let empty = Rel::new(heading, Vec::new(alloc))?;
     match init {
-        None => Ok(empty),
-        Some(init) => relation_of(&empty, value(alloc, catalog, init)),
+        None => Ok(empty_of(alloc, &heading)?),
+        Some(init) => relation_of(&heading, value(alloc, catalog, init)),
     }
 }
 
@@ -95,7 +95,7 @@ fn body_of<B: Body>(alloc: Global, keys: &Vec<Vec<Name>>, relation: Rel) -> Resu
     ensures keys { IfOk result (λ b. B.keys b ≡ map (λ key. key.items) keys.now.items) }
     ensures kept { IfOk result (λ b. B.kept b ≡ []) }
 {
-    let none = Rel::of_ascending(relation.heading().try_clone()?, Vec::new(alloc))?;
+    let none = empty_like(alloc, &relation)?;
     let empty: B = B::empty(alloc, relation.heading().try_clone()?, copied_keys(keys)?)?;
     let _ = empty.len();
     relation.reveal();

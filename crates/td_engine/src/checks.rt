@@ -28,8 +28,8 @@ ghost use Rattle.td_tree.specs.Trees as trees;
 ghost use Rattle.td_value.specs.Values.{Val};
 
 use crate::added::{Added, asks_of_tuples};
+use crate::evaluation::{value, value_with};
 use crate::refusal::{Failure, Refusal};
-use crate::updates::assigned_value;
 use std::alloc::{AllocError, Global};
 use td_body::body::Body;
 use td_body::keys::key_holds;
@@ -37,34 +37,12 @@ use td_catalog::catalog::Catalog;
 use td_catalog::defining::DefiningExpression;
 use td_catalog::entry::{BaseEntry, VirtualEntry};
 use td_catalog::marked_names::MarkedNames;
-use td_eval::env::Env;
-use td_plan::values::value_in;
 use td_tree::cause::Cause;
 use td_tree::expression::Expr;
 use td_tree::fault::Fault;
 use td_tree::name::Name;
 use td_value::relation::Rel;
 use td_value::value::{Node, Value};
-
-/// The value of an expression that meets the static rules where the catalogue is known and no tuple
-/// is in scope, by a plan.
-pub(crate) fn value<'a, B: Body>(
-    alloc: Global,
-    catalog: &'a Catalog<B>,
-    expr: &Expr,
-) -> Result<Value, Fault>
-    requires { IsPlannable catalog.now.database (tree_view expr.now) }
-    ensures { Answers (λ v. v) result
-        (value_of (world_of catalog.now.database) [] (tree_view expr.now)) }
-{
-    let other: Option<(&'a Name, &'a Rel)> = None;
-    let env = Env {
-        catalog,
-        other,
-        tuples: &[],
-    };
-    value_in(alloc, &env, expr)
-}
 
 /// Whether each of the keys holds.
 pub(crate) fn keys_hold(
@@ -246,7 +224,7 @@ fn test_added<B: Body>(
         (source_world catalog.now.database added.now.relvar.now added.now.tuples.now)
         (named_constraint name.now condition.now)) }
 {
-    let test = assigned_value(alloc, catalog, added.relvar, added.tuples, condition.tree());
+    let test = value_with(alloc, catalog, added.relvar, added.tuples, condition.tree());
     constraint_passed(name, test)
 }
 
@@ -358,38 +336,6 @@ pub(crate) fn check_after<B: Body>(
     ensures { Changes catalog.now.database result (checked_effect catalog.now.database) }
 {
     check_derived(alloc, catalog, reached, added)
-}
-
-// ---- what is reached
-
-/// Adds a virtual relvar in which one of those reached is named.
-fn reach(reached: &mut MarkedNames, name: &Name, entry: &VirtualEntry) -> Result<(), AllocError>
-    ensures { OnOk result (reached.new
-        ≡ with_dependent reached.old (virtual_view (name.now, entry.now))) }
-{
-    if !entry.tree.names_any(reached) {
-        return Ok(());
-    }
-    reached.push(name.try_clone()?)
-}
-
-/// What a change of these base relvars reaches: with them each virtual relvar in which one that is
-/// reached is named.
-pub(crate) fn reached_from<B: Body>(
-    catalog: &Catalog<B>,
-    changed: Vec<Name>,
-) -> Result<MarkedNames, AllocError>
-    ensures { IfOk result (λ reached.
-        reached ≡ reached_from changed.items catalog.now.database.virtuals) }
-{
-    let mut reached = MarkedNames::new(changed);
-    for place in 0..catalog.virtual_count() {
-        let Some((name, entry)) = catalog.nth_virtual(place) else {
-            return Ok(reached);
-        };
-        reach(&mut reached, name, entry)?;
-    }
-    Ok(reached)
 }
 
 // ---- what was defined last

@@ -17,7 +17,7 @@ ghost use Rattle.td_value.specs.Literal.{literal};
 ghost use Rattle.td_value.specs.Values.{Val};
 
 use crate::answer::{Answer, line};
-use crate::checks::value;
+use crate::evaluation::value;
 use crate::refusal::{Failure, Refusal};
 use crate::statement::{change, check_in};
 use std::alloc::{AllocError, Global};

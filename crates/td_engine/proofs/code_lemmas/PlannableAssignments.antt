@@ -1,26 +1,23 @@
 -- Assignments whose expressions may be valued by plans, since their targets hold typed relations so far.
-use Rattle.std.proofs.Common.{◌≡◌, ◌∙◌, ◌∷◌, ℕ, true, List, [], Option, Some, None, ap, map, option_map, refl, subst, sym}
+use Rattle.std.proofs.Common.{◌≡◌, ◌∙◌, ◌∷◌, ℕ, true, List, [], Option, Some, None, ap, map, refl, subst, sym}
 use Rattle.std.specs.List.{AllByRecursion}
 use Rattle.td_catalog.specs.Database.{BaseRelvar, Database, base_named, database_scope}
 use Rattle.td_check.specs.OperatorTypes.{known_or, over_relation, restriction_type, same_type}
 use Rattle.td_check.specs.Scopes.{entered_with, known_relvar}
 use Rattle.td_check.specs.StatementTypes.{both_hold, condition_fits, is_target, source_fits, type_if_given}
 use Rattle.td_check.specs.StaticTypes.{named_types, type_of}
-use Rattle.td_engine.proofs.law_lemmas.Admitted.{both_asked}
-use Rattle.td_engine.proofs.code_lemmas.DeletedTuples.{same_world}
-use Rattle.td_engine.proofs.law_lemmas.GivenValues.{database_gives, source_gives}
+use Rattle.td_engine.proofs.law_lemmas.GivenValues.{source_gives}
 use Rattle.td_engine.proofs.law_lemmas.TypedGifts.{AreChecked, checked_condition, checked_setting_condition, checked_settings, checked_source, chosen_like, is_base, statement_each_checked}
 use Rattle.td_engine.proofs.law_lemmas.WrittenStatements.{AreWritten, statement_written}
 use Rattle.td_engine.specs.Assignments.{chosen_for, source_world, target_of}
 use Rattle.td_engine.specs.code.Carried.{IsAdmitted}
 use Rattle.td_engine.specs.code.Gifts.{IsGift}
 use Rattle.td_engine.specs.Legality.{IsLegal}
-use Rattle.td_engine.specs.code.Plannable.{ArePlannableSettings, IsAdmittedAssignment, IsPlannable, IsPlannableAssignment, IsPlannableConditionIf, IsPlannableIf, IsPlannableSource}
+use Rattle.td_engine.specs.code.Plannable.{ArePlannableSettings, IsAdmittedAssignment, IsPlannableAssignment, IsPlannableConditionIf, IsPlannableSource}
 use Rattle.td_eval.proofs.code_lemmas.KeepsGathered.{all_from_members}
 use Rattle.td_eval.proofs.code_lemmas.KeepsRelations.{IsTypedRelation, value_from_typed}
 use Rattle.td_eval.proofs.law_lemmas.KnownRelvars.{known_as_base}
 use Rattle.td_eval.proofs.code_lemmas.TypedRows.{rows_typed}
-use Rattle.td_eval.specs.DatabaseWorlds.{world_of}
 use Rattle.td_eval.specs.ValueTypes.{IsTypedTuple}
 use Rattle.td_tree.specs.declared.cause.Cause.TheVariants as causes
 use Rattle.td_tree.specs.declared.operator.Style.{Style}
@@ -34,25 +31,6 @@ use Rattle.td_types.specs.Types.{Heading, Type', boolean, pack, relation}
 use Rattle.td_value.specs.Values.{IsRelation, Relation}
 
 module _ (db : Database) (legal : IsLegal db) where
-  -- a source that meets the rules
-  checked_plannable : (n : List ℕ) (e : Tree)
-      → both_hold (is_target (known_relvar (database_scope db) n))
-      (with_value (type_of (database_scope db) e) (source_fits (known_relvar (database_scope db) n))) ≡ Valued tt
-      → IsPlannable db e
-  checked_plannable n e checked =
-      let source = value_of_with (type_of (database_scope db) e) (source_fits (known_relvar (database_scope db) n)) tt (both_asked _ _ checked).1 in
-      record { gives = database_gives db legal.typed; typed = (source.0, source.1) }
-
-  -- what is inserted into a relvar to which nothing was given before, or is to be taken away from it
-  pub insert_plannable : (n : List ℕ) (e : Tree) → IsAdmittedAssignment db (insert n e) → IsPlannable db e
-  insert_plannable n e is = checked_plannable n e is.checked
-
-  pub disjoint_insert_plannable : (n : List ℕ) (e : Tree) → IsAdmittedAssignment db (disjoint_insert n e) → IsPlannable db e
-  disjoint_insert_plannable n e is = checked_plannable n e is.checked
-
-  pub included_delete_plannable : (n : List ℕ) (e : Tree) → IsAdmittedAssignment db (included_delete n e) → IsPlannable db e
-  included_delete_plannable n e is = checked_plannable n e is.checked
-
   -- a base relvar may be given what it holds
   pub base_gift : (n : List ℕ) (r : BaseRelvar) → base_named n db ≡ Some r → IsGift db (n, r.relation)
   base_gift n r at =
@@ -129,37 +107,6 @@ module _ (db : Database) (legal : IsLegal db) where
   assignment_plannable so_far (update style n condition settings) gift is =
       let k = checked_setting_condition db legal.typed n so_far gift style condition settings is.checked in
       (condition_plannable n so_far gift condition k.0 k.1 k.2, settings_plannable n so_far gift style condition settings is)
-
-  -- ---- what is chosen of what a base relvar holds
-
-  module _ (n : List ℕ) (b : BaseRelvar) (at : base_named n db ≡ Some b) where
-    chosen_plannable : (condition : Option Tree) (k : Option Type') → type_if_given (entered_with b.relation.heading (database_scope db)) condition ≡ Valued k
-        → condition_fits k ≡ Valued tt → IsPlannableIf db (option_map (restriction (name n)) condition)
-    chosen_plannable None k typed fits = tt
-    chosen_plannable (Some p) k typed fits =
-        record {
-          gives = database_gives db legal.typed;
-          typed = (relation (pack b.relation.heading), chosen_typed n b at p k typed fits);
-        }
-
-    pub delete_plannable : (condition : Option Tree) → IsAdmittedAssignment db (delete n condition)
-        → IsPlannableIf db (option_map (restriction (name n)) condition)
-    unfolding base_gift
-    delete_plannable condition is =
-        let k = checked_condition db legal.typed n b.relation (base_gift n b at) condition is.checked in
-        chosen_plannable condition k.0 k.1 k.2
-
-    module _ (style : Style) (condition : Option Tree) (settings : NamedTrees) (is : IsAdmittedAssignment db (update style n condition settings)) where
-      pub update_plannable : IsPlannableIf db (option_map (restriction (name n)) condition)
-      unfolding base_gift
-      update_plannable =
-          let k = checked_setting_condition db legal.typed n b.relation (base_gift n b at) style condition settings is.checked in
-          chosen_plannable condition k.0 k.1 k.2
-
-      pub update_settings : ArePlannableSettings db (world_of db) (chosen_for b.relation (world_of db) n condition) settings
-      update_settings =
-          subst (λ w. ArePlannableSettings db w (chosen_for b.relation w n condition) settings) (same_world db n b at)
-          (settings_plannable n b.relation (base_gift n b at) style condition settings is)
 
   -- ---- those of a statement
 

@@ -45,3 +45,6 @@ module _ (r out : Relation) (o : Outcome Relation) (told : o ≡ Valued out) whe
   taken_out d valid within is add =
       ap (λ p. with_value p (included_difference r)) told ∙ ap (λ b. value_if b (difference r out) causes.NotIncluded) within
       ∙ ap Valued (sym (ap (λ q. union (difference r q) d.add) is ∙ ap (union (difference r out)) add ∙ nothing_in out.heading (difference r out) (IsRelation-restriction _ r valid)))
+
+  pub not_within : is_subset out r ≡ false → with_value o (included_difference r) ≡ Refused (Only causes.NotIncluded)
+  not_within without = ap (λ p. with_value p (included_difference r)) told ∙ ap (λ b. value_if b (difference r out) causes.NotIncluded) without

@@ -1,9 +1,9 @@
 -- A part of a legal database that is typed passes the checks: in it the virtual relvars and the constraints have the values that
 -- they have in the whole.
-use Rattle.std.proofs.Common.{◌≡◌, ◌∙◌, ◌∷◌, List, [], Option, Some, None, ap, refl, sym}
+use Rattle.std.proofs.Common.{◌≡◌, ◌∙◌, ◌∷◌, List, [], Option, None, ap, refl, sym}
 use Rattle.std.specs.List.{AllByRecursion}
 use Rattle.std.specs.Option.{option_or}
-use Rattle.td_catalog.specs.Database.{Database, NamedConstraint, VirtualRelvar, database_scope}
+use Rattle.td_catalog.specs.Database.{Database, NamedConstraint, database_scope}
 use Rattle.td_catalog.specs.TypedDatabases.{IsTyped, IsTypedConstraint}
 use Rattle.td_engine.proofs.law_lemmas.EachOf.{all_both, all_given}
 use Rattle.td_engine.proofs.law_lemmas.PassedChecks.{all_pass}
@@ -22,7 +22,6 @@ use Rattle.td_eval.specs.TreeValues.{value_of}
 use Rattle.td_eval.specs.ValueLaws.{HasLater, IsChecked}
 use Rattle.td_tree.specs.Trees.{Tree, name}
 use Rattle.td_tree.specs.WrittenTrees.{IsWritten}
-use Rattle.td_types.specs.TypeLists.{DeclaredType}
 use Rattle.td_types.specs.Types.{boolean}
 
 -- where each is passed, no check refuses

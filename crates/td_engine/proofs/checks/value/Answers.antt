@@ -1,5 +1,0 @@
-use Rattle.std.proofs.Common.{refl}
-use Rattle.td_engine.proofs.checks.value.Goals as goal
-
-pub returns : goal.returns
-returns g c = c.value_in.ensures (record { gives = c.requires.gives; tuples = (tt, refl); typed = c.requires.typed })
