@@ -1,6 +1,6 @@
 //! Relations and tuples of which all parts are literals. They have their values before a plan is
 //! run, by evaluation, which costs less than planning them.
-ghost use Rattle.std.specs.Prelude.{◌≡◌, IfOk, IfSome, IsTrue};
+ghost use Rattle.std.specs.Prelude.{IfOk, IfSome, IsTrue};
 ghost use Rattle.td_plan.specs.Closed.{AreClosed, IsClosed, PartsAreClosed};
 ghost use Rattle.td_plan.specs.PlansOf.{IsPlanOfTyped};
 ghost use Rattle.td_plan.specs.code.Planners.{IsPlanner};
@@ -54,16 +54,6 @@ fn parts_are_constant(parts: &[NamedExpr]) -> bool
     true
 }
 
-/// Whether an expression is a tuple or a relation of literals alone.
-fn is_closed(expr: &Expr) -> bool
-    ensures { IsTrue result → IsClosed (tree_view expr.now) }
-{
-    match expr {
-        Expr::Tuple(_) | Expr::Relation(_) | Expr::HeadedRelation(..) => is_constant(expr),
-        _ => false,
-    }
-}
-
 /// The step of what such an expression has, if it has a value.
 #[inline(never)]
 pub(crate) fn closed_step<C: Known>(
@@ -74,7 +64,11 @@ pub(crate) fn closed_step<C: Known>(
     ensures { IfOk result (λ found. IfSome found
         (λ p. IsPlanOfTyped planner.now.scope (step_view p) (tree_view expr.now))) }
 {
-    if !is_closed(expr) {
+    let has_parts = matches!(
+        expr,
+        Expr::Tuple(_) | Expr::Relation(_) | Expr::HeadedRelation(..)
+    );
+    if !has_parts || !is_constant(expr) {
         return Ok(None);
     }
     match planner.catalog.value_alone(planner.alloc, expr) {

@@ -1,6 +1,5 @@
 //! What an expression is planned in.
-ghost use Rattle.std.specs.Prelude.{◌≡◌, IfNone, IfOk, IfSome, List, OnOk, [], length};
-ghost use Rattle.std.specs.Prelude.{reverse};
+ghost use Rattle.std.specs.Prelude.{◌≡◌, IfNone, IfOk, IfSome, List, OnOk, [], length, reverse};
 ghost use Rattle.std.specs.List.{slice_get};
 ghost use Rattle.td_catalog.specs.Database.{Database, database_scope};
 ghost use Rattle.td_check.specs.Scopes.{bound_to, entered_with};
@@ -162,7 +161,7 @@ impl<'a, C: Known> Planner<'a, C> {
     }
 
     /// A further tuple, of the heading, comes into hand.
-    fn enter(&mut self, heading: &Heading) -> Result<(), AllocError>
+    pub(crate) fn enter(&mut self, heading: &Heading) -> Result<(), AllocError>
         requires { IsPlanner C.database self.old }
         ensures planner { OnOk result (IsPlanner C.database self.new) }
         ensures scope { OnOk result (self.new.scope ≡ entered_with heading.now self.old.scope) }
@@ -170,17 +169,6 @@ impl<'a, C: Known> Planner<'a, C> {
         self.scope.enter(heading.try_clone()?)?;
         self.headings.push(heading.try_clone()?)?;
         Ok(())
-    }
-
-    /// Where a further tuple, of the heading, is in hand.
-    pub(crate) fn with_heading(self, heading: Heading) -> Result<Planner<'a, C>, AllocError>
-        requires { IsPlanner C.database self }
-        ensures planner { IfOk result (λ p. IsPlanner C.database p) }
-        ensures scope { IfOk result (λ p. p.scope ≡ entered_with heading self.entry.scope) }
-    {
-        let mut planner = self;
-        planner.enter(&heading)?;
-        Ok(planner)
     }
 
     /// Where the same tuples are in hand.

@@ -7,4 +7,4 @@ pub returns-in-Ok : goal.returns-in-Ok
 returns-in-Ok g c =
     let planner = c.args.planner.now in
     closed_planned planner.scope (g.C.Known.database planner.catalog.now) (tree_view c.args.expr.now) c.in-Ok.value (ap (λ s. s.types) c.requires)
-    (c.is_closed.ensures (c.if-not-is_closed.false)) c.in-Ok.ensures
+    (c.is_constant.ensures (c.if-not-is_constant.false)) c.in-Ok.ensures

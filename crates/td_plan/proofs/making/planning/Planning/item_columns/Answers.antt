@@ -1,8 +1,10 @@
 use Rattle.std.proofs.Common.{◌≡◌, List, subst, sym}
-use Rattle.std.specs.Prelude.{IfNone, IfOk, IfSome}
+use Rattle.std.specs.Prelude.{IfNone, IfSome}
+use Rattle.td_check.specs.Scopes.{Scope}
 use Rattle.td_eval.specs.AggregateValues.{summary_attributes}
 use Rattle.td_plan.proofs.PlannedLists.{items_are}
-use Rattle.td_plan.specs.code.PlannedParts.{ArePlanned, ArePlannedColumns, in_summaries}
+use Rattle.td_plan.specs.code.PlannedParts.{ArePlansOfTyped, in_summaries}
+use Rattle.td_plan.specs.code.StepViews.{steps_view}
 use Rattle.td_tree.specs.Outcomes.{Valued}
 use Rattle.td_tree.specs.code.TreeViews.{summaries_view}
 use Rattle.td_types.specs.Types.{Attribute}
@@ -11,16 +13,16 @@ use Rattle.td_plan.proofs.making.planning.Planning.item_columns.Goals as goal
 
 pub returns : goal.returns
 returns g c =
-    let scope = c.args.self.now.planner.now.scope in
     let es = summaries_view c.args.items.now in
-    let types = summary_attributes scope es in
-    subst (λ o. IfOk o (λ columns. ArePlannedColumns scope columns types (in_summaries es))) c.in_ok-columns.was
-    (c.new_columns.ensures scope types (in_summaries es)
-    (subst (λ o. IfSome o (λ xs. types ≡ Valued (pairs_view xs.items))) c.in-Some.is c.in_ok-attributes.ensures.some)
-    (subst (ArePlanned scope c.item_steps.result) (sym (items_are c.args.items.now)) c.item_steps.ensures))
+    let types = λ (scope : Scope). summary_attributes scope es in
+    let there = c.in_ok-planner.planner.scope in
+    let known = subst (λ o. IfSome o (λ xs. types there ≡ Valued (pairs_view xs.items))) c.in-Some.is c.in_ok-attributes.ensures.some in
+    let values = steps_view c.in_ok-values.values.items in
+    let planned = subst (ArePlansOfTyped there values) (sym (items_are c.args.items.now)) c.in_ok-values.ensures in
+    subst (λ s. (types s ≡ Valued (pairs_view c.in-Some.attributes.items)) × ArePlansOfTyped s values (in_summaries es)) c.in_ok-planner.ensures.scope (known, planned)
 
 pub returns-in_default : goal.returns-in_default
 returns-in_default g c =
-    let scope = c.args.self.now.planner.now.scope in
-    let types = summary_attributes scope (summaries_view c.args.items.now) in
-    subst (λ o. IfNone o ((xs : List Attribute) → types ≡ Valued xs → ⊥)) c.in_default.is c.in_ok-attributes.ensures.none
+    let es = summaries_view c.args.items.now in
+    subst (λ s. (xs : List Attribute) → summary_attributes s es ≡ Valued xs → ⊥) c.in_ok-planner.ensures.scope
+    (subst (λ o. IfNone o ((xs : List Attribute) → summary_attributes c.in_ok-planner.planner.scope es ≡ Valued xs → ⊥)) c.in_default.is c.in_ok-attributes.ensures.none)
