@@ -32,10 +32,7 @@ fn planner_in<'a, B: Body>(
     ensures planner { IfOk result (λ p. IsPlanner catalog_database p) }
     ensures scope { IfOk result (λ p. p.scope ≡ scope_in env.now) }
 {
-    let replaced = match env.other {
-        Some((name, _)) => Some(name),
-        None => None,
-    };
+    let replaced = env.other.map(|other| other.0);
     let mut planner = Planner::outside(alloc, env.catalog, replaced);
     for tuple in env.tuples {
         planner.enter(&tuple.heading()?)?;
@@ -126,9 +123,6 @@ pub(crate) fn plan_settings<B: Body>(
         add_names(alloc, env.catalog, &part.value, &mut names)?;
     }
     let planner = planner_in(alloc, env)?;
-    plan_by(
-        alloc,
-        settings_step(&planner, rel, attributes, parts),
-        names,
-    )
+    let step = settings_step(&planner, rel, attributes, parts);
+    plan_by(alloc, step, names)
 }

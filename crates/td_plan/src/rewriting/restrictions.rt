@@ -13,7 +13,7 @@ use crate::making::nodes::dyadic_step;
 use crate::making::planner::{Known, Planner};
 use crate::making::planning::Planning;
 use crate::plan::step::{Dyadic, Origin, Step};
-use crate::rewriting::narrowed::{base_named, has_key_attributes, look_up_by_key};
+use crate::rewriting::narrowed::{base_named, look_up_by_key};
 use crate::rewriting::push::{Restricted, restricted_operands};
 use std::alloc::AllocError;
 use td_tree::expression::Expr;
@@ -150,9 +150,6 @@ where
         let Some(name) = base_named(self.planner, operand) else {
             return Ok(None);
         };
-        if !has_key_attributes(self.planner, name) {
-            return Ok(None);
-        }
         let fixed = self.fixed_values(condition, heading);
         look_up_by_key(self.planner, name, heading, condition, fixed)
     }
