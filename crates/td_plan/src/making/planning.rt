@@ -109,7 +109,7 @@ where
         Ok(steps)
     }
 
-    /// The new attributes that parts give to a tuple of the heading; none where these have no types.
+    /// The new attributes that parts give to a tuple of the heading; none where they have no types.
     fn part_columns(
         &self,
         heading: &Heading,

@@ -148,15 +148,18 @@ all_inside_both-returns t c =
     c.joined.ensures.first c.joined.ensures.second
 
 pub named_step-returns-in-Constant : goal.named_step-returns-in-Constant
-named_step-returns-in-Constant t c = c.named.ensures _ _ c.args.step (leaf_remembered c.args.places.now c.new.result.items c.args.step _ (ap step_view (sym c.in-Constant.is))
+named_step-returns-in-Constant t c = c.named.ensures _ _ c.args.step (leaf_remembered c.args.places.now c.new.result.items c.args.step _ (ap step_view
+    (sym c.in-Constant.is))
     (λ w s t agree. rw (ap step_view c.in-Constant.is) refl) (λ ps. tt))
 
 pub named_step-returns-in-Refused : goal.named_step-returns-in-Refused
-named_step-returns-in-Refused t c = c.named-in-Refused.ensures _ _ c.args.step (leaf_remembered c.args.places.now c.new-in-Refused.result.items c.args.step _ (ap step_view (sym c.in-Refused.is))
+named_step-returns-in-Refused t c = c.named-in-Refused.ensures _ _ c.args.step
+    (leaf_remembered c.args.places.now c.new-in-Refused.result.items c.args.step _ (ap step_view (sym c.in-Refused.is))
     (λ w s t agree. rw (ap step_view c.in-Refused.is) refl) (λ ps. tt))
 
 pub named_step-returns-in-Relvar : goal.named_step-returns-in-Relvar
-named_step-returns-in-Relvar t c = c.named-in-Relvar.ensures _ _ c.args.step (leaf_remembered c.args.places.now c.new-in-Relvar.result.items c.args.step _ (ap step_view (sym c.in-Relvar.is))
+named_step-returns-in-Relvar t c = c.named-in-Relvar.ensures _ _ c.args.step (leaf_remembered c.args.places.now c.new-in-Relvar.result.items c.args.step _
+    (ap step_view (sym c.in-Relvar.is))
     (λ w s t agree. rw (ap step_view c.in-Relvar.is) refl) (λ ps. tt))
 
 pub named_step-returns-in-Attribute : goal.named_step-returns-in-Attribute
@@ -173,7 +176,8 @@ named_step-returns-in-LookUp t c =
     c.named-in-LookUp.ensures _ _ c.args.step (IfOk-weaker c.remember-names.result _ _ (λ result h.
     let names = result.items in
     one_remembered (plans.look_up c.in-LookUp.relvar key) _ _ names (look_up_on names c.in-LookUp.relvar key) _ _ _ _ h
-    (ap step_view c.in-LookUp.is ∙ (λ i. plans.look_up c.in-LookUp.relvar key (step_view (sym c.deref_mut.ensures.value i)))) refl (λ ps s. s)) c.remember-names.ensures)
+    (ap step_view c.in-LookUp.is ∙ (λ i. plans.look_up c.in-LookUp.relvar key (step_view (sym c.deref_mut.ensures.value i)))) refl
+    (λ ps s. s)) c.remember-names.ensures)
 
 pub named_step-returns-in-Monadic : goal.named_step-returns-in-Monadic
 named_step-returns-in-Monadic t c =
@@ -181,7 +185,8 @@ named_step-returns-in-Monadic t c =
     c.named-in-Monadic.ensures _ _ c.args.step (IfOk-weaker c.remember-names-in-Monadic.result _ _ (λ result h.
     let names = result.items in
     one_remembered (plans.monadic op) _ _ names (monadic_on names op) _ _ _ _ h
-    (ap step_view c.in-Monadic.is ∙ (λ i. plans.monadic op (step_view (sym c.deref_mut-in-Monadic.ensures.value i)))) refl (λ ps s. s)) c.remember-names-in-Monadic.ensures)
+    (ap step_view c.in-Monadic.is ∙ (λ i. plans.monadic op (step_view (sym c.deref_mut-in-Monadic.ensures.value i)))) refl
+    (λ ps s. s)) c.remember-names-in-Monadic.ensures)
 
 pub named_step-returns-in-Dyadic : goal.named_step-returns-in-Dyadic
 named_step-returns-in-Dyadic t c =
@@ -190,14 +195,16 @@ named_step-returns-in-Dyadic t c =
     let names = result.items in
     two_remembered (λ p q. plans.dyadic p op q) (λ x y. AreAmong x names × AreAmong y names) _ _ names
     (λ x y p q among f g. dyadic_on names p op q (on_more x names p among.0 f) (on_more y names q among.1 g)) _ _ _ _ _ _ h
-    (ap step_view c.in-Dyadic.is ∙ (λ i. plans.dyadic (step_view (sym c.deref_mut-in-Dyadic.ensures.value i)) op (step_view (sym c.deref_mut-in-Dyadic-2.ensures.value i)))) refl (λ ps s. s)) c.both-names.ensures)
+    (ap step_view c.in-Dyadic.is ∙ (λ i. plans.dyadic (step_view (sym c.deref_mut-in-Dyadic.ensures.value i)) op (step_view
+    (sym c.deref_mut-in-Dyadic-2.ensures.value i)))) refl (λ ps s. s)) c.both-names.ensures)
 
 pub named_step-returns-in-If : goal.named_step-returns-in-If
 named_step-returns-in-If t c =
     c.named-in-If.ensures _ _ c.args.step (IfOk-weaker c.three-names.result _ _ (λ result h.
     let names = result.items in
     three_made plans.choice _ _ names (choice_on names) _ _ _ _ _ _ _ _ h
-    (ap step_view c.in-If.is ∙ (λ i. plans.choice (step_view (sym c.deref_mut-in-If.ensures.value i)) (step_view (sym c.deref_mut-in-If-2.ensures.value i)) (step_view (sym c.deref_mut-in-If-3.ensures.value i)))) refl (λ ps s. s)) c.three-names.ensures)
+    (ap step_view c.in-If.is ∙ (λ i. plans.choice (step_view (sym c.deref_mut-in-If.ensures.value i)) (step_view
+    (sym c.deref_mut-in-If-2.ensures.value i)) (step_view (sym c.deref_mut-in-If-3.ensures.value i)))) refl (λ ps s. s)) c.three-names.ensures)
 
 pub named_step-returns-in-Select : goal.named_step-returns-in-Select
 named_step-returns-in-Select t c =
@@ -205,7 +212,8 @@ named_step-returns-in-Select t c =
     c.named-in-Select.ensures _ _ c.args.step (IfOk-weaker c.all-names.result _ _ (λ result h.
     let names = result.items in
     all_made (plans.select (selector_view selector)) _ _ names (select_on names (selector_view selector)) _ _ _ _ h
-    (ap step_view c.in-Select.is ∙ select_is selector c.in-Select.parts) (select_is selector c.all-names.new.steps) (λ ps s. parts_sound ps c.all-names.new.steps s)) c.all-names.ensures)
+    (ap step_view c.in-Select.is ∙ select_is selector c.in-Select.parts) (select_is selector c.all-names.new.steps)
+    (λ ps s. parts_sound ps c.all-names.new.steps s)) c.all-names.ensures)
 
 pub named_step-returns-in-Restriction : goal.named_step-returns-in-Restriction
 named_step-returns-in-Restriction t c =
@@ -214,7 +222,8 @@ named_step-returns-in-Restriction t c =
     let names = result.items in
     two_remembered (λ p q. plans.restriction p slot q) (λ x y. AreAmong x names × AreAmongBut slot y names) _ _ names
     (λ x y p q among f g. restriction_on names y slot among.1 p q (on_more x names p among.0 f) g) _ _ _ _ _ _ h
-    (ap step_view c.in-Restriction.is ∙ (λ i. plans.restriction (step_view (sym c.deref_mut-in-Restriction.ensures.value i)) slot (step_view (sym c.deref_mut-in-Restriction-2.ensures.value i)))) refl (λ ps s. s)) c.inside-names.ensures)
+    (ap step_view c.in-Restriction.is ∙ (λ i. plans.restriction (step_view (sym c.deref_mut-in-Restriction.ensures.value i)) slot (step_view
+    (sym c.deref_mut-in-Restriction-2.ensures.value i)))) refl (λ ps s. s)) c.inside-names.ensures)
 
 pub named_step-returns-in-Aggregate : goal.named_step-returns-in-Aggregate
 named_step-returns-in-Aggregate t c =
@@ -224,7 +233,8 @@ named_step-returns-in-Aggregate t c =
     let names = result.items in
     two_remembered (λ p q. plans.aggregate op p slot q) (λ x y. AreAmong x names × AreAmongBut slot y names) _ _ names
     (λ x y p q among f g. aggregate_on names y slot among.1 op p q (on_more x names p among.0 f) g) _ _ _ _ _ _ h
-    (ap step_view c.in-Aggregate.is ∙ (λ i. plans.aggregate op (step_view (sym c.deref_mut-in-Aggregate.ensures.value i)) slot (step_view (sym c.deref_mut-in-Aggregate-2.ensures.value i)))) refl (λ ps s. s)) c.inside-names-in-Aggregate.ensures)
+    (ap step_view c.in-Aggregate.is ∙ (λ i. plans.aggregate op (step_view (sym c.deref_mut-in-Aggregate.ensures.value i)) slot (step_view
+    (sym c.deref_mut-in-Aggregate-2.ensures.value i)))) refl (λ ps s. s)) c.inside-names-in-Aggregate.ensures)
 
 pub named_step-returns-in-Extend : goal.named_step-returns-in-Extend
 named_step-returns-in-Extend t c =
@@ -232,8 +242,10 @@ named_step-returns-in-Extend t c =
     let attributes = pairs_view c.in-Extend.columns.items in
     c.named-in-Extend.ensures _ _ c.args.step (IfOk-weaker c.all_inside-names.result _ _ (λ result h.
     let names = result.items in
-    inside_made (λ p qs. plans.extend p attributes slot qs) _ _ slot names (λ inner p qs among f g. extend_on names inner slot among p attributes qs f g) _ _ _ _ _ _ h
-    (ap step_view c.in-Extend.is ∙ (λ i. plans.extend (step_view (sym c.deref_mut-in-Extend.ensures.value i)) attributes slot (steps_are c.in-Extend.values i))) (ap (plans.extend (step_view c.all_inside-names.new.operand) attributes slot) (steps_are c.all_inside-names.new.steps))
+    inside_made (λ p qs. plans.extend p attributes slot qs) _ _ slot names
+    (λ inner p qs among f g. extend_on names inner slot among p attributes qs f g) _ _ _ _ _ _ h
+    (ap step_view c.in-Extend.is ∙ (λ i. plans.extend (step_view (sym c.deref_mut-in-Extend.ensures.value i)) attributes slot
+    (steps_are c.in-Extend.values i))) (ap (plans.extend (step_view c.all_inside-names.new.operand) attributes slot) (steps_are c.all_inside-names.new.steps))
     (λ ps s. (s.0, parts_sound ps c.all_inside-names.new.steps s.1))) c.all_inside-names.ensures)
 
 pub named_step-returns-in-SummarizeBy : goal.named_step-returns-in-SummarizeBy
@@ -246,8 +258,10 @@ named_step-returns-in-SummarizeBy t c =
     let names = result.items in
     inside_made (λ p qs. plans.summarize_by p by attributes aggregates slot qs) _ _ slot names
     (λ inner p qs among f g. summarize_by_on names inner slot among p by attributes aggregates qs f g) _ _ _ _ _ _ h
-    (ap step_view c.in-SummarizeBy.is ∙ (λ i. plans.summarize_by (step_view (sym c.deref_mut-in-SummarizeBy.ensures.value i)) by attributes aggregates slot (steps_are c.in-SummarizeBy.values i)))
-    (ap (plans.summarize_by (step_view c.all_inside-names-in-SummarizeBy.new.operand) by attributes aggregates slot) (steps_are c.all_inside-names-in-SummarizeBy.new.steps))
+    (ap step_view c.in-SummarizeBy.is ∙ (λ i. plans.summarize_by (step_view
+    (sym c.deref_mut-in-SummarizeBy.ensures.value i)) by attributes aggregates slot (steps_are c.in-SummarizeBy.values i)))
+    (ap (plans.summarize_by (step_view c.all_inside-names-in-SummarizeBy.new.operand) by attributes aggregates slot)
+    (steps_are c.all_inside-names-in-SummarizeBy.new.steps))
     (λ ps s. (s.0, parts_sound ps c.all_inside-names-in-SummarizeBy.new.steps s.1))) c.all_inside-names-in-SummarizeBy.ensures)
 
 pub named_step-returns-in-SummarizePer : goal.named_step-returns-in-SummarizePer
@@ -259,8 +273,10 @@ named_step-returns-in-SummarizePer t c =
     let names = result.items in
     inside_both_made (λ p q qs. plans.summarize_per p q attributes aggregates slot qs) _ _ slot names
     (λ inner p q qs among f g h. summarize_per_on names inner slot among p q attributes aggregates qs f g h) _ _ _ _ _ _ _ _ h
-    (ap step_view c.in-SummarizePer.is ∙ (λ i. plans.summarize_per (step_view (sym c.deref_mut-in-SummarizePer.ensures.value i)) (step_view (sym c.deref_mut-in-SummarizePer-2.ensures.value i)) attributes aggregates slot (steps_are c.in-SummarizePer.values i)))
-    (ap (plans.summarize_per (step_view c.all_inside_both-names.new.operand) (step_view c.all_inside_both-names.new.per) attributes aggregates slot) (steps_are c.all_inside_both-names.new.steps))
+    (ap step_view c.in-SummarizePer.is ∙ (λ i. plans.summarize_per (step_view (sym c.deref_mut-in-SummarizePer.ensures.value i)) (step_view
+    (sym c.deref_mut-in-SummarizePer-2.ensures.value i)) attributes aggregates slot (steps_are c.in-SummarizePer.values i)))
+    (ap (plans.summarize_per (step_view c.all_inside_both-names.new.operand) (step_view c.all_inside_both-names.new.per) attributes aggregates slot)
+    (steps_are c.all_inside_both-names.new.steps))
     (λ ps s. (s.0, s.1, parts_sound ps c.all_inside_both-names.new.steps s.2))) c.all_inside_both-names.ensures)
 
 pub named_step-all-names-requires : goal.named_step-all-names-requires

@@ -11,7 +11,8 @@ pub returns-in-Count : goal.returns-in-Count
 returns-in-Count g c =
     let scope = c.args.self.now.planner.now.scope in
     subst (λ x. IsPlanOfTyped scope (step_view (variants.Constant c.bool.result)) (item_tree x)) (sym c.in-Count.is)
-    (subst (λ v. IsPlanOfTyped scope (step_view (variants.Constant v)) (trees.literal (trees.truth true))) (sym c.bool.ensures) (λ written t typed w s slots k hand f. refl))
+    (subst (λ v. IsPlanOfTyped scope (step_view (variants.Constant v)) (trees.literal (trees.truth true))) (sym c.bool.ensures)
+    (λ written t typed w s slots k hand f. refl))
 
 pub returns-in-Of : goal.returns-in-Of
 returns-in-Of g c =

@@ -19,10 +19,12 @@ returns g c =
     let known = subst (λ o. IfSome o (λ xs. types there ≡ Valued (pairs_view xs.items))) c.in-Some.is c.in_ok-attributes.ensures.some in
     let values = steps_view c.in_ok-values.values.items in
     let planned = subst (ArePlansOfTyped there values) (sym (parts_are c.args.parts.now)) c.in_ok-values.ensures in
-    subst (λ s. (types s ≡ Valued (pairs_view c.in-Some.attributes.items)) × ArePlansOfTyped s values (in_named es)) c.in_ok-planner.ensures.scope (known, planned)
+    subst (λ s. (types s ≡ Valued (pairs_view c.in-Some.attributes.items)) × ArePlansOfTyped s values (in_named es)) c.in_ok-planner.ensures.scope
+    (known, planned)
 
 pub returns-in_default : goal.returns-in_default
 returns-in_default g c =
     let es = named_view c.args.parts.now in
     subst (λ s. (xs : List Attribute) → named_types s es ≡ Valued xs → ⊥) c.in_ok-planner.ensures.scope
-    (subst (λ o. IfNone o ((xs : List Attribute) → named_types c.in_ok-planner.planner.scope es ≡ Valued xs → ⊥)) c.in_default.is c.in_ok-attributes.ensures.none)
+    (subst (λ o. IfNone o
+    ((xs : List Attribute) → named_types c.in_ok-planner.planner.scope es ≡ Valued xs → ⊥)) c.in_default.is c.in_ok-attributes.ensures.none)

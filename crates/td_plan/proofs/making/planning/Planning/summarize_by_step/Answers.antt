@@ -33,7 +33,8 @@ returns g c =
     let tree = trees.summarize_by d by items in
     let columns = subst (λ o. AreFoundColumns inner o (summary_attributes inner items) (in_summaries items)) c.in-Some-2.is c.in_ok-columns.ensures in
     subst (λ x. IsPlanOfTyped scope x tree) (sym (summarize_by_is p c.in_ok-by.by attributes aggregates slot values))
-    (subst (λ b. IsPlanOfTyped scope (plans.summarize_by (step_view p.value) b (pairs_view attributes.items) aggregates.items slot (steps_view values.items)) tree)
+    (subst (λ b. IsPlanOfTyped scope (plans.summarize_by (step_view p.value) b (pairs_view attributes.items) aggregates.items slot
+    (steps_view values.items)) tree)
     (sym c.in_ok-by.ensures)
     (summary_by_planned scope (step_view p.value) (pairs_view attributes.items) aggregates.items slot (steps_view values.items)
     d items h c.next_slot-slot.ensures c.in_ok-operand.ensures
