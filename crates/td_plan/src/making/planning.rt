@@ -20,7 +20,9 @@ use crate::making::nodes::{
 use crate::making::planner::{Known, Planner};
 use crate::plan::step::{Dyadic, Monadic, Origin, Step};
 use std::alloc::AllocError;
+use td_check::expression::check_parts;
 use td_tree::expression::{Expr, NamedExpr};
+use td_tree::fault::Fault;
 use td_tree::name::Name;
 use td_tree::operator::Aggregate;
 use td_types::heading::Heading;
@@ -123,15 +125,18 @@ where
             (named_view parts.now)) (in_named (named_view parts.now))) }
     {
         let planner = self.planner.inner_planner(heading)?;
-        let Some(attributes) = planner.attributes_of(parts)? else {
-            return Ok(None);
-        };
-        let inner = Planning {
-            planner: &planner,
-            inner: self.inner,
-        };
-        let values = inner.part_steps(parts)?;
-        Ok(Some(NewColumns { attributes, values }))
+        match check_parts(&planner.scope, parts) {
+            Ok(attributes) => {
+                let inner = Planning {
+                    planner: &planner,
+                    inner: self.inner,
+                };
+                let values = inner.part_steps(parts)?;
+                Ok(Some(NewColumns { attributes, values }))
+            }
+            Err(Fault::Refused(_)) => Ok(None),
+            Err(Fault::Memory) => Err(AllocError),
+        }
     }
 
     /// The step of an aggregate of an expression in the tuples of an operand.

@@ -1,50 +1,26 @@
 //! The steps of SUMMARIZE.
-ghost use Rattle.std.specs.Prelude.{◌≡◌, ◌+◌, IfNone, IfOk, IfSome, List, map, suc, true};
-ghost use Rattle.td_check.specs.Scopes.{Scope, entered_with};
+ghost use Rattle.std.specs.Prelude.{◌≡◌, ◌+◌, IfOk, map, suc, true};
+ghost use Rattle.td_check.specs.Scopes.{entered_with};
 ghost use Rattle.td_eval.specs.AggregateValues.{summary_attributes};
 ghost use Rattle.td_eval.specs.code.Totals.{asked_by};
 ghost use Rattle.td_plan.specs.code.PlannedParts.{AreFoundColumns, ArePlanned, IsPlanned};
 ghost use Rattle.td_plan.specs.code.PlannedParts.{in_summaries, item_tree};
 ghost use Rattle.td_plan.specs.code.PlansBelow.{PlansBelow};
 ghost use Rattle.td_plan.specs.code.TreeWeights.{expr_weight, item_weight, summaries_weight};
-ghost use Rattle.td_tree.specs.Outcomes.{Valued};
 ghost use Rattle.td_tree.specs.code.TreeViews.{attributes_view, summaries_view, tree_view};
 ghost use Rattle.td_tree.specs.Trees as trees;
-ghost use Rattle.td_types.specs.Types.{Attribute, Heading};
-ghost use Rattle.td_types.specs.code.Views.{pairs_view};
+ghost use Rattle.td_types.specs.Types.{Heading};
 
 use crate::making::planner::{Known, Planner};
 use crate::making::planning::{NewColumns, Planning};
 use crate::plan::step::Step;
 use std::alloc::{AllocError, Global};
-use td_check::scope::Scope;
 use td_eval::operators::summaries::{asked_by, item_attributes};
 use td_group::aggregates::Agg;
 use td_tree::expression::{Attributes, Expr, Summary};
 use td_tree::fault::Fault;
-use td_tree::name::Name;
 use td_types::heading::Heading;
-use td_types::ty::Ty;
 use td_value::value::Value;
-
-/// The attributes that items add, with their types: none where they have no types.
-pub(crate) fn attributes_of(
-    alloc: Global,
-    scope: &Scope<'_>,
-    items: &[Summary],
-) -> Result<Option<Vec<(Name, Ty)>>, AllocError>
-    ensures some { IfOk result (λ found. IfSome found (λ xs.
-        summary_attributes scope.now (summaries_view items.now)
-        ≡ Valued (pairs_view xs.items))) }
-    ensures none { IfOk result (λ found. IfNone found ((xs : List Attribute)
-        → summary_attributes scope.now (summaries_view items.now) ≡ Valued xs → ⊥)) }
-{
-    match item_attributes(alloc, scope, items) {
-        Ok(attributes) => Ok(Some(attributes)),
-        Err(Fault::Refused(_)) => Ok(None),
-        Err(Fault::Memory) => Err(AllocError),
-    }
-}
 
 /// The aggregates that items of SUMMARIZE name, in the order written.
 pub(crate) fn aggregates_of(alloc: Global, items: &[Summary]) -> Result<Vec<Agg>, AllocError>
@@ -101,15 +77,18 @@ where
             (summaries_view items.now)) (in_summaries (summaries_view items.now))) }
     {
         let planner = self.planner.inner_planner(heading)?;
-        let Some(attributes) = attributes_of(planner.alloc, &planner.scope, items)? else {
-            return Ok(None);
-        };
-        let inner = Planning {
-            planner: &planner,
-            inner: self.inner,
-        };
-        let values = inner.item_steps(items)?;
-        Ok(Some(NewColumns { attributes, values }))
+        match item_attributes(planner.alloc, &planner.scope, items) {
+            Ok(attributes) => {
+                let inner = Planning {
+                    planner: &planner,
+                    inner: self.inner,
+                };
+                let values = inner.item_steps(items)?;
+                Ok(Some(NewColumns { attributes, values }))
+            }
+            Err(Fault::Refused(_)) => Ok(None),
+            Err(Fault::Memory) => Err(AllocError),
+        }
     }
 
     /// The step of SUMMARIZE of an operand by the tuples of another relation.
