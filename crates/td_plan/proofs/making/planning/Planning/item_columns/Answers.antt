@@ -1,6 +1,5 @@
 use Rattle.std.proofs.Common.{◌≡◌, Err, List, subst, sym}
 use Rattle.std.specs.Global.{Vec}
-use Rattle.td_check.specs.Scopes.{Scope}
 use Rattle.td_eval.specs.AggregateValues.{summary_attributes}
 use Rattle.td_plan.proofs.PlannedAnswers.{no_value}
 use Rattle.td_plan.proofs.PlannedLists.{items_are}
