@@ -1,13 +1,14 @@
 -- What is answered of the step of an expression, by what is answered of the steps of its parts.
-use Rattle.std.proofs.Common.{◌≡◌, ◌∙◌, ◌∷◌, [], ap, refl, sym}
+use Rattle.std.proofs.Common.{◌≡◌, ◌∙◌, ◌∷◌, [], ap, refl, subst, sym}
 use Rattle.std.specs.declared.alloc.AllocError.{AllocError}
-use Rattle.std.specs.Prelude.{List, Result, Ok, Err}
+use Rattle.std.specs.Prelude.{List, Option, Some, None, Result, Ok, Err, ⊤}
 use Rattle.td_check.specs.OperatorTypes.{over_relation}
 use Rattle.td_check.specs.Scopes.{Scope, entered_with}
 use Rattle.td_check.specs.StaticTypes.{named_types, type_of}
 use Rattle.td_plan.specs.declared.plan.step.Step.{Step}
 use Rattle.td_plan.specs.code.PlannedParts.{IsPlanned}
-use Rattle.td_tree.specs.Outcomes.{Outcome, Valued, with_value}
+use Rattle.td_tree.specs.declared.cause.Cause.{Cause}
+use Rattle.td_tree.specs.Outcomes.{Outcome, Valued, named_cause, with_value}
 use Rattle.td_tree.specs.Trees.{NamedTrees, Tree}
 use Rattle.td_types.proofs.Meanings.{pack_unpack}
 use Rattle.td_types.proofs.OutcomeLaws.{value_of_with}
@@ -48,3 +49,12 @@ parts_typed scope d h parts f t static e =
 pub untyped_planned : (scope : Scope) (made : Result Step AllocError) (e : Tree) → ((t : Type') → type_of scope e ≡ Valued t → ⊥) → IsPlanned scope made e
 untyped_planned scope (Ok p) e none = λ written t is. absurd (none t is)
 untyped_planned scope (Err failed) e none = tt
+
+-- ---- what is refused has no value
+
+abbrev IsMissing : Option Cause → Type 0
+IsMissing None = ⊤
+IsMissing (Some cause) = ⊥
+
+pub no_value : {A : Type 0} (o : Outcome A) (cause : Cause) → named_cause o ≡ Some cause → (x : A) → o ≡ Valued x → ⊥
+no_value o cause refused x is = subst IsMissing (sym (ap named_cause is) ∙ refused) tt

@@ -1,5 +1,5 @@
 -- What is planned where the values of WITH's items are in scope is what has its value there.
-use Rattle.std.proofs.Common.{◌≡◌, ◌∙◌, ◌++◌, ℕ, suc, Bool, true, false, List, [], ◌∷◌, ap, append-nil, append_assoc, arith, get_or, drop, length, map, refl, subst, sym, ◌<◌, ◌≤◌, ◌+◌, if◌then◌else◌}
+use Rattle.std.proofs.Common.{◌≡◌, ◌∙◌, ◌++◌, ℕ, suc, Bool, true, false, List, [], ◌∷◌, ap, append-nil, append_assoc, arith, get_or, drop, length, refl, subst, sym, ◌<◌, ◌≤◌, ◌+◌, if◌then◌else◌}
 use Rattle.std.proofs.lemmas.Bool.{lt-ltb}
 use Rattle.std.proofs.lemmas.List.{at_drop_more, drop_all, length-map}
 use Rattle.td_check.specs.OperatorTypes.{misfit, tuple_type}

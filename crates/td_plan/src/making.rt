@@ -1,7 +1,6 @@
 //! How plans are made of expressions.
 pub(crate) mod bound;
 pub(crate) mod closed;
-pub(crate) mod in_tuples;
 pub(crate) mod nodes;
 pub(crate) mod planner;
 pub(crate) mod planning;

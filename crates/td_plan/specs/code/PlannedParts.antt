@@ -4,7 +4,7 @@ use Rattle.std.specs.Global.{Box, Vec}
 use Rattle.std.specs.Prelude.{◌≡◌, ℕ, true, IfOk, List, [], ◌∷◌, Option, Some, None, Result, ⊤}
 use Rattle.td_check.specs.Scopes.{Scope, bound_to}
 use Rattle.td_check.specs.StaticTypes.{type_of}
-use Rattle.td_plan.specs.declared.making.in_tuples.NewColumns.{NewColumns}
+use Rattle.td_plan.specs.declared.making.planning.NewColumns.{NewColumns}
 use Rattle.td_plan.specs.declared.plan.step.Step.{Step}
 use Rattle.td_plan.specs.Plans.{PlanTrees, none, more}
 use Rattle.td_plan.specs.PlansOf.{IsPlanOfTyped}

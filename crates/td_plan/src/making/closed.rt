@@ -1,6 +1,6 @@
 //! Relations and tuples of which all parts are literals. They have their values before a plan is
 //! run, by evaluation, which costs less than planning them.
-ghost use Rattle.std.specs.Prelude.{◌≡◌, IfOk, IfSome, IsTrue};
+ghost use Rattle.std.specs.Prelude.{IfOk, IfSome, IsTrue};
 ghost use Rattle.td_plan.specs.Closed.{AreClosed, IsClosed, PartsAreClosed};
 ghost use Rattle.td_plan.specs.PlansOf.{IsPlanOfTyped};
 ghost use Rattle.td_plan.specs.code.Planners.{IsPlanner};

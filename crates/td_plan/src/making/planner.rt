@@ -1,28 +1,27 @@
 //! What an expression is planned in.
-ghost use Rattle.std.specs.Prelude.{◌≡◌, IfNone, IfOk, IfSome, List, OnOk, [], length};
-ghost use Rattle.std.specs.Prelude.{reverse};
+ghost use Rattle.std.specs.Prelude.{◌≡◌, IfNone, IfOk, IfSome, OnOk, [], length, reverse};
 ghost use Rattle.std.specs.List.{slice_get};
 ghost use Rattle.td_catalog.specs.Database.{Database, database_scope};
 ghost use Rattle.td_check.specs.Scopes.{bound_to, entered_with};
-ghost use Rattle.td_check.specs.StaticTypes.{named_types, type_of};
+ghost use Rattle.td_check.specs.StaticTypes.{type_of};
 ghost use Rattle.td_plan.specs.code.Planners.{IsPlanner, attribute_place, catalog_database};
 ghost use Rattle.td_plan.specs.code.Planners.{is_named, place_in};
 ghost use Rattle.td_eval.specs.DatabaseWorlds.{world_of};
 ghost use Rattle.td_eval.specs.TreeValues.{value_of};
 ghost use Rattle.td_tree.specs.Outcomes.{Answers, Valued};
-ghost use Rattle.td_tree.specs.code.TreeViews.{named_view, tree_view};
+ghost use Rattle.td_tree.specs.code.TreeViews.{tree_view};
 ghost use Rattle.td_types.specs.Types as types;
-ghost use Rattle.td_types.specs.Types.{Attribute, Heading, pack};
-ghost use Rattle.td_types.specs.code.Views.{pairs_view, type_view};
+ghost use Rattle.td_types.specs.Types.{Heading, pack};
+ghost use Rattle.td_types.specs.code.Views.{type_view};
 
 use std::alloc::{AllocError, Global};
 use td_body::body::Body;
 use td_catalog::catalog::Catalog;
-use td_check::expression::{check_expr, check_parts};
+use td_check::expression::check_expr;
 use td_check::scope::Scope;
 use td_eval::env::Env;
 use td_eval::value::eval;
-use td_tree::expression::{Expr, NamedExpr};
+use td_tree::expression::Expr;
 use td_tree::fault::Fault;
 use td_tree::name::Name;
 use td_types::heading::Heading;
@@ -162,7 +161,7 @@ impl<'a, C: Known> Planner<'a, C> {
     }
 
     /// A further tuple, of the heading, comes into hand.
-    fn enter(&mut self, heading: &Heading) -> Result<(), AllocError>
+    pub(crate) fn enter(&mut self, heading: &Heading) -> Result<(), AllocError>
         requires { IsPlanner C.database self.old }
         ensures planner { OnOk result (IsPlanner C.database self.new) }
         ensures scope { OnOk result (self.new.scope ≡ entered_with heading.now self.old.scope) }
@@ -170,17 +169,6 @@ impl<'a, C: Known> Planner<'a, C> {
         self.scope.enter(heading.try_clone()?)?;
         self.headings.push(heading.try_clone()?)?;
         Ok(())
-    }
-
-    /// Where a further tuple, of the heading, is in hand.
-    pub(crate) fn with_heading(self, heading: Heading) -> Result<Planner<'a, C>, AllocError>
-        requires { IsPlanner C.database self }
-        ensures planner { IfOk result (λ p. IsPlanner C.database p) }
-        ensures scope { IfOk result (λ p. p.scope ≡ entered_with heading self.entry.scope) }
-    {
-        let mut planner = self;
-        planner.enter(&heading)?;
-        Ok(planner)
     }
 
     /// Where the same tuples are in hand.
@@ -260,23 +248,6 @@ impl<'a, C: Known> Planner<'a, C> {
         match check_expr(&self.scope, expr) {
             Ok(Ty::Rel(heading)) => Ok(Some(heading)),
             Ok(_) => Ok(None),
-            Err(Fault::Refused(_)) => Ok(None),
-            Err(Fault::Memory) => Err(AllocError),
-        }
-    }
-
-    /// The attributes that parts add, with their types; none where one of these has no type.
-    pub(crate) fn attributes_of(
-        &self,
-        parts: &[NamedExpr],
-    ) -> Result<Option<Vec<(Name, Ty)>>, AllocError>
-        ensures some { IfOk result (λ found. IfSome found (λ xs.
-            named_types self.now.scope (named_view parts.now) ≡ Valued (pairs_view xs.items))) }
-        ensures none { IfOk result (λ found. IfNone found ((xs : List Attribute)
-            → named_types self.now.scope (named_view parts.now) ≡ Valued xs → ⊥)) }
-    {
-        match check_parts(&self.scope, parts) {
-            Ok(attributes) => Ok(Some(attributes)),
             Err(Fault::Refused(_)) => Ok(None),
             Err(Fault::Memory) => Err(AllocError),
         }

@@ -3,19 +3,16 @@
 ghost use Rattle.std.specs.Prelude.{◌+◌, IfOk, map, suc};
 ghost use Rattle.td_check.specs.Scopes.{entered_with};
 ghost use Rattle.td_check.specs.StaticTypes.{named_types};
-ghost use Rattle.td_plan.specs.code.PlannedParts.{AreFoundColumns, ArePlanned, ArePlansOfTyped};
-ghost use Rattle.td_plan.specs.code.PlannedParts.{IsBoxPlanned, IsExtensionPlanned, IsPlanned};
-ghost use Rattle.td_plan.specs.code.PlannedParts.{in_named, part_tree};
+ghost use Rattle.td_plan.specs.code.PlannedParts.{AreFoundColumns, ArePlanned, IsBoxPlanned};
+ghost use Rattle.td_plan.specs.code.PlannedParts.{IsExtensionPlanned, IsPlanned, in_named};
+ghost use Rattle.td_plan.specs.code.PlannedParts.{part_tree};
 ghost use Rattle.td_plan.specs.code.Planners.{IsPlanner};
 ghost use Rattle.td_plan.specs.code.PlansBelow.{PlansBelow};
-ghost use Rattle.td_plan.specs.PlansOf.{IsPlanOfTyped};
-ghost use Rattle.td_plan.specs.code.StepViews.{step_view, steps_view};
 ghost use Rattle.td_plan.specs.code.TreeWeights.{expr_weight, named_weight, weights};
 ghost use Rattle.td_tree.specs.code.TreeViews.{named_view, tree_view, trees_view};
 ghost use Rattle.td_tree.specs.Trees as trees;
 
 use crate::making::closed::closed_step;
-use crate::making::in_tuples::{NewColumns, aggregation_step, extension_step, new_columns};
 use crate::making::nodes::{
     choice_step, component, dyadic_step, extraction, headed_step, literal_step, monadic_step,
     name_step, postfix, relation_step, select_step, tuple_step,
@@ -23,9 +20,22 @@ use crate::making::nodes::{
 use crate::making::planner::{Known, Planner};
 use crate::plan::step::{Dyadic, Monadic, Origin, Step};
 use std::alloc::AllocError;
+use td_check::expression::check_parts;
 use td_tree::expression::{Expr, NamedExpr};
+use td_tree::fault::Fault;
+use td_tree::name::Name;
 use td_tree::operator::Aggregate;
 use td_types::heading::Heading;
+use td_types::ty::Ty;
+
+/// New attributes, with the steps of their values in each tuple of an operand.
+#[derive(Drop)]
+pub(crate) struct NewColumns {
+    /// Their names and types.
+    pub(crate) attributes: Vec<(Name, Ty)>,
+    /// The step of each attribute's value in a tuple.
+    pub(crate) values: Vec<Step>,
+}
 
 /// What an expression is planned in, and what plans the parts of it there.
 #[derive(Drop)]
@@ -42,8 +52,7 @@ where
     /// The step of a part.
     pub(crate) fn step_of(&self, expr: &Expr) -> Result<Step, AllocError>
         requires { PlansBelow C.database self.now (suc (expr_weight expr.now)) F.pre F.post }
-        ensures { IfOk result
-            (λ p. IsPlanOfTyped self.now.planner.now.scope (step_view p) (tree_view expr.now)) }
+        ensures { IsPlanned self.now.planner.now.scope result (tree_view expr.now) }
     {
         (self.inner)(self.planner, expr)
     }
@@ -102,23 +111,8 @@ where
         Ok(steps)
     }
 
-    /// The new attributes that parts give to the tuple in scope; none where these have no types.
-    fn part_columns(&self, parts: &[NamedExpr]) -> Result<Option<NewColumns>, AllocError>
-        requires { PlansBelow C.database self.now (suc (named_weight (named_view parts.now)))
-            F.pre F.post }
-        ensures { IfOk result (λ found. AreFoundColumns self.now.planner.now.scope found
-            (named_types self.now.planner.now.scope (named_view parts.now))
-            (in_named (named_view parts.now))) }
-    {
-        let Some(attributes) = self.planner.attributes_of(parts)? else {
-            return Ok(None);
-        };
-        let columns = new_columns(attributes, self.part_steps(parts))?;
-        Ok(Some(columns))
-    }
-
-    /// The same where a further tuple, of the heading, is in hand.
-    fn part_columns_inside(
+    /// The new attributes that parts give to a tuple of the heading; none where they have no types.
+    fn part_columns(
         &self,
         heading: &Heading,
         parts: &[NamedExpr],
@@ -130,12 +124,19 @@ where
             (named_types (entered_with heading.now self.now.planner.now.scope)
             (named_view parts.now)) (in_named (named_view parts.now))) }
     {
-        let inner = self.planner.inner_planner(heading)?;
-        Planning {
-            planner: &inner,
-            inner: self.inner,
+        let planner = self.planner.inner_planner(heading)?;
+        match check_parts(&planner.scope, parts) {
+            Ok(attributes) => {
+                let inner = Planning {
+                    planner: &planner,
+                    inner: self.inner,
+                };
+                let values = inner.part_steps(parts)?;
+                Ok(Some(NewColumns { attributes, values }))
+            }
+            Err(Fault::Refused(_)) => Ok(None),
+            Err(Fault::Memory) => Err(AllocError),
         }
-        .part_columns(parts)
     }
 
     /// The step of an aggregate of an expression in the tuples of an operand.
@@ -155,8 +156,8 @@ where
             return self.step_of(operand);
         };
         let slot = self.planner.next_slot();
-        let value = self.step_inside(&heading, value);
-        aggregation_step(op, self.boxed_step(operand), slot, value)
+        let operand = self.boxed_step(operand)?;
+        Ok(Step::Aggregate(op, operand, slot, self.step_inside(&heading, value)?))
     }
 
     /// The step of an operand's tuples with attributes set, in either spelling.
@@ -170,18 +171,18 @@ where
         let Some(heading) = self.planner.heading_of(operand)? else {
             return self.step_of(operand);
         };
-        let Some(columns) = self.part_columns_inside(&heading, parts)? else {
+        let Some(columns) = self.part_columns(&heading, parts)? else {
             return self.step_of(operand);
         };
+        let NewColumns { attributes, values } = columns;
         let slot = self.planner.next_slot();
-        extension_step(self.boxed_step(operand), slot, columns)
+        Ok(Step::Extend(self.boxed_step(operand)?, attributes, slot, values))
     }
 
     /// The step of an expression, by those of its parts.
     fn by_form(&self, expr: &Expr) -> Result<Step, AllocError>
         requires { PlansBelow C.database self.now (expr_weight expr.now) F.pre F.post }
-        ensures { IfOk result
-            (λ p. IsPlanOfTyped self.now.planner.now.scope (step_view p) (tree_view expr.now)) }
+        ensures { IsPlanned self.now.planner.now.scope result (tree_view expr.now) }
     {
         match expr {
             Expr::Literal(literal) => literal_step(self.planner.alloc, literal),
@@ -234,8 +235,7 @@ where
     /// The step of an expression: what it has, where that needs no plan, else by its parts.
     pub(crate) fn planned(&self, expr: &Expr) -> Result<Step, AllocError>
         requires { PlansBelow C.database self.now (expr_weight expr.now) F.pre F.post }
-        ensures { IfOk result
-            (λ p. IsPlanOfTyped self.now.planner.now.scope (step_view p) (tree_view expr.now)) }
+        ensures { IsPlanned self.now.planner.now.scope result (tree_view expr.now) }
     {
         match closed_step(self.planner, expr)? {
             Some(step) => Ok(step),
@@ -247,8 +247,7 @@ where
 /// The step of an expression.
 pub(crate) fn step_of<C: Known>(planner: &Planner<'_, C>, expr: &Expr) -> Result<Step, AllocError>
     requires { IsPlanner C.database planner.now }
-    ensures { IfOk result
-        (λ p. IsPlanOfTyped planner.now.scope (step_view p) (tree_view expr.now)) }
+    ensures { IsPlanned planner.now.scope result (tree_view expr.now) }
 {
     Planning {
         planner: &*planner,
@@ -263,8 +262,7 @@ pub(crate) fn part_steps<C: Known>(
     parts: &[NamedExpr],
 ) -> Result<Vec<Step>, AllocError>
     requires { IsPlanner C.database planner.now }
-    ensures { IfOk result (λ ps. ArePlansOfTyped planner.now.scope (steps_view ps.items)
-        (map part_tree parts.now)) }
+    ensures { ArePlanned planner.now.scope result (map part_tree parts.now) }
 {
     Planning {
         planner: &*planner,
@@ -278,15 +276,14 @@ pub(crate) fn where_of<C: Known>(
     planner: &Planner<'_, C>,
     expr: &Expr,
     condition: &Expr,
-    origin: Origin,
 ) -> Result<Step, AllocError>
     requires { IsPlanner C.database planner.now }
-    ensures { IfOk result (λ p. IsPlanOfTyped planner.now.scope (step_view p)
-        (trees.restriction (tree_view expr.now) (tree_view condition.now))) }
+    ensures { IsPlanned planner.now.scope result
+        (trees.restriction (tree_view expr.now) (tree_view condition.now)) }
 {
     Planning {
         planner: &*planner,
         inner: step_of,
     }
-    .where_of(expr, condition, origin)
+    .where_of(expr, condition, Origin::Written)
 }

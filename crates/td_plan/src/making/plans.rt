@@ -1,8 +1,7 @@
 //! The plans of expressions.
 ghost use Rattle.std.specs.Prelude.{◌≡◌, IfOk, IsOkAnd};
 ghost use Rattle.td_plan.specs.code.Planners.{IsPlanner, catalog_database};
-ghost use Rattle.td_plan.specs.PlansOf.{ArePlannedSettings, IsPlanIfTyped, IsPlanOfTyped};
-ghost use Rattle.td_plan.specs.PlansOf.{scope_in};
+ghost use Rattle.td_plan.specs.PlansOf.{ArePlannedSettings, IsPlanIfTyped, IsPlanOfTyped, scope_in};
 ghost use Rattle.td_plan.specs.code.PlanViews.{plan_view};
 ghost use Rattle.td_plan.specs.code.StepViews.{step_view};
 ghost use Rattle.td_tree.specs.code.TreeViews.{named_view, tree_view};
@@ -11,9 +10,9 @@ ghost use Rattle.td_types.specs.code.Views.{pairs_view};
 
 use crate::making::planner::Planner;
 use crate::making::planning::{part_steps, step_of, where_of};
-use crate::making::remember::remembered;
+use crate::making::remember::remember;
 use crate::plan::Plan;
-use crate::plan::step::{Origin, Step};
+use crate::plan::step::Step;
 use crate::running::virtuals::add_names;
 use std::alloc::{AllocError, Global};
 use td_body::body::Body;
@@ -33,13 +32,10 @@ fn planner_in<'a, B: Body>(
     ensures planner { IfOk result (λ p. IsPlanner catalog_database p) }
     ensures scope { IfOk result (λ p. p.scope ≡ scope_in env.now) }
 {
-    let replaced = match env.other {
-        Some((name, _)) => Some(name),
-        None => None,
-    };
+    let replaced = env.other.map(|other| other.0);
     let mut planner = Planner::outside(alloc, env.catalog, replaced);
     for tuple in env.tuples {
-        planner = planner.with_heading(tuple.heading()?)?;
+        planner.enter(&tuple.heading()?)?;
     }
     Ok(planner)
 }
@@ -52,10 +48,12 @@ fn plan_by(
 ) -> Result<Plan, AllocError>
     ensures { IfOk result (λ plan. IsOkAnd step (λ s. plan_view plan ≡ step_view s)) }
 {
-    let made = remembered(alloc, step?)?;
+    let mut step = step?;
+    let mut places = 0;
+    remember(alloc, &mut places, &mut step)?;
     Ok(Plan {
-        step: made.step,
-        places: made.places,
+        step,
+        places,
         names,
     })
 }
@@ -73,23 +71,6 @@ pub fn plan<B: Body>(alloc: Global, env: &Env<'_, B>, expr: &Expr) -> Result<Pla
     plan_by(alloc, step_of(&planner, expr), names)
 }
 
-/// The plan of the tuples of an expression's relation for which a condition is TRUE.
-fn plan_where<B: Body>(
-    alloc: Global,
-    env: &Env<'_, B>,
-    expr: &Expr,
-    condition: &Expr,
-) -> Result<Plan, AllocError>
-    ensures { IfOk result (λ p. IsPlanOfTyped (scope_in env.now) (plan_view p)
-        (trees.restriction (tree_view expr.now) (tree_view condition.now))) }
-{
-    let mut names = Vec::new(alloc);
-    add_names(alloc, env.catalog, condition, &mut names)?;
-    let planner = planner_in(alloc, env)?;
-    let step = where_of(&planner, expr, condition, Origin::Written);
-    plan_by(alloc, step, names)
-}
-
 /// The plan of the tuples of the base relvar of the name for which a condition is TRUE.
 pub(crate) fn plan_in_relvar<B: Body>(
     alloc: Global,
@@ -100,8 +81,11 @@ pub(crate) fn plan_in_relvar<B: Body>(
     ensures { IfOk result (λ p. IsPlanOfTyped (scope_in env.now) (plan_view p)
         (trees.restriction (trees.name relvar.now) (tree_view condition.now))) }
 {
+    let mut names = Vec::new(alloc);
+    add_names(alloc, env.catalog, condition, &mut names)?;
+    let planner = planner_in(alloc, env)?;
     let named = Expr::Name(relvar.try_clone()?);
-    plan_where(alloc, env, &named, condition)
+    plan_by(alloc, where_of(&planner, &named, condition), names)
 }
 
 /// The step of a relation's tuples with attributes of these types set to what parts are in each.
@@ -139,9 +123,6 @@ pub(crate) fn plan_settings<B: Body>(
         add_names(alloc, env.catalog, &part.value, &mut names)?;
     }
     let planner = planner_in(alloc, env)?;
-    plan_by(
-        alloc,
-        settings_step(&planner, rel, attributes, parts),
-        names,
-    )
+    let step = settings_step(&planner, rel, attributes, parts);
+    plan_by(alloc, step, names)
 }

@@ -1,24 +1,17 @@
 //! Parts of a step whose answers are kept, found once it is made: those that do not name the
 //! innermost tuple which what they are parts of names.
-ghost use Rattle.std.specs.Prelude.{◌≡◌, ◌<◌, ◌^◌, ◌-◌, ◌∷◌, [], IfOk, List, OnOk, length, map, ℕ};
-ghost use Rattle.td_plan.specs.code.Memos.{IsRunnable};
-ghost use Rattle.td_plan.specs.code.Remembered.{AreAllAmong, AreAmong, AreAmongBut, AreBefore};
-ghost use Rattle.td_plan.specs.code.Remembered.{AreEachKept, AreEachRemembered, AreRemembered};
-ghost use Rattle.td_plan.specs.code.Remembered.{AreAllRemembered, AreAmongBefore};
+ghost use Rattle.std.specs.Prelude.{◌≡◌, ◌<◌, ◌-◌, IfOk, List, OnOk, length, map, ℕ};
+ghost use Rattle.td_plan.specs.code.Remembered.{AreAmong, AreAmongBut, AreBefore, AreEachKept};
+ghost use Rattle.td_plan.specs.code.Remembered.{AreEachRemembered, AreRemembered, AreAllRemembered};
 ghost use Rattle.td_plan.specs.code.Remembered.{AreBoundNames, AreRememberedBound};
-ghost use Rattle.td_plan.specs.code.Remembered.{AreRememberedInside};
-ghost use Rattle.td_plan.specs.code.Remembered.{AreRememberedInsideBoth, AreThreeRemembered};
-ghost use Rattle.td_plan.specs.code.Remembered.{IsRemembered, KeepsPart};
-ghost use Rattle.td_plan.specs.code.StepViews.{step_view};
+ghost use Rattle.td_plan.specs.code.Remembered.{AreRememberedInside, AreRememberedInsideBoth};
+ghost use Rattle.td_plan.specs.code.Remembered.{AreThreeRemembered, IsRemembered, KeepsPart};
+ghost use Rattle.td_plan.specs.declared.plan.step.Step.{Step};
+ghost use Rattle.td_plan.specs.declared.plan.step.Step.TheVariants as variants;
 
 mod names;
-mod nodes;
 
 use crate::making::remember::names::{before, joined, one, reach_of, union_of, without};
-use crate::making::remember::nodes::{
-    aggregate, bound, choice, dyadic, extend, look_up, monadic, restriction, select, summarize_by,
-    summarize_per,
-};
 use crate::plan::step::Step;
 use std::alloc::{AllocError, Global};
 use std::mem;
@@ -44,17 +37,10 @@ fn keep(alloc: Global, places: &mut usize, step: &mut Step, reach: usize) -> Res
 
 /// Whether a step takes more than a look.
 fn has_work(step: &Step) -> bool {
-    match step {
-        Step::Constant(_) => false,
-        Step::Refused(_) => false,
-        Step::Attribute { slot: _, place: _ } => false,
-        Step::Once {
-            place: _,
-            reach: _,
-            part: _,
-        } => false,
-        _ => true,
-    }
+    !matches!(
+        step,
+        Step::Constant(_) | Step::Refused(_) | Step::Attribute { .. } | Step::Once { .. }
+    )
 }
 
 /// Keeps the answer of a step that names these slots where what it is a part of reaches further.
@@ -97,9 +83,9 @@ fn keep_all(
 
 /// A step whose parts are kept, and the slots that it names.
 #[derive(Drop)]
-pub(crate) struct NamedStep {
-    pub(crate) step: Step,
-    pub(crate) names: Vec<usize>,
+struct NamedStep {
+    step: Step,
+    names: Vec<usize>,
 }
 
 /// Keeps the answers of the step's parts. It gives the slots that the step names.
@@ -118,70 +104,78 @@ pub(crate) fn remember(
     Ok(named.names)
 }
 
+/// The step, beside the slots that it names where there was memory for them.
+fn named(step: Step, names: Result<Vec<usize>, AllocError>) -> Result<NamedStep, AllocError>
+    ensures { (a b : ℕ) (old : Step)
+        → IfOk names (λ ns. IsRemembered a b ns.items old step)
+        → IfOk result (λ named. IsRemembered a b named.names.items old named.step) }
+{
+    let names = names?;
+    Ok(NamedStep { step, names })
+}
+
 /// The step with the parts whose answers are kept. A part that is kept already is found anew.
 #[cycle(remember)]
 fn named_step(alloc: Global, places: &mut usize, step: Step) -> Result<NamedStep, AllocError>
     ensures { IfOk result (λ named.
         IsRemembered places.old places.new named.names.items step named.step) }
 {
-    let none = Vec::new(alloc);
     match step {
-        Step::Constant(value) => Ok(NamedStep {
-            step: Step::Constant(value),
-            names: none,
-        }),
-        Step::Refused(cause) => Ok(NamedStep {
-            step: Step::Refused(cause),
-            names: none,
-        }),
-        Step::Relvar(name) => Ok(NamedStep {
-            step: Step::Relvar(name),
-            names: none,
-        }),
+        Step::Constant(value) => named(Step::Constant(value), Ok(Vec::new(alloc))),
+        Step::Refused(cause) => named(Step::Refused(cause), Ok(Vec::new(alloc))),
+        Step::Relvar(name) => named(Step::Relvar(name), Ok(Vec::new(alloc))),
         Step::Attribute { slot, place } => {
-            let names = one(alloc, slot)?;
-            Ok(NamedStep {
-                step: Step::Attribute { slot, place },
-                names,
-            })
+            named(Step::Attribute { slot, place }, one(alloc, slot))
         }
-        Step::LookUp(relvar, key, operand) => look_up(alloc, places, relvar, key, operand),
-        Step::Monadic(op, operand) => monadic(alloc, places, op, operand),
-        Step::Dyadic(left, op, right) => dyadic(alloc, places, left, op, right),
-        Step::Select(selector, parts) => select(alloc, places, selector, parts),
-        Step::Restriction(operand, slot, body, origin) => {
-            restriction(alloc, places, operand, slot, body, origin)
+        Step::LookUp(relvar, key, mut operand) => {
+            let names = remember(alloc, places, &mut operand);
+            named(Step::LookUp(relvar, key, operand), names)
         }
-        Step::Extend(operand, attributes, slot, values) => {
-            extend(alloc, places, operand, attributes, slot, values)
+        Step::Monadic(op, mut operand) => {
+            let names = remember(alloc, places, &mut operand);
+            named(Step::Monadic(op, operand), names)
         }
-        Step::Aggregate(op, operand, slot, body) => {
-            aggregate(alloc, places, op, operand, slot, body)
+        Step::Dyadic(mut left, op, mut right) => {
+            let names = both(alloc, places, &mut left, &mut right);
+            named(Step::Dyadic(left, op, right), names)
         }
-        Step::SummarizePer(operand, per, attributes, aggregates, slot, values) => {
-            summarize_per(
-                alloc, places, operand, per, attributes, aggregates, slot, values,
-            )
+        Step::Select(selector, mut parts) => {
+            let names = all(alloc, places, &mut parts);
+            named(Step::Select(selector, parts), names)
         }
-        Step::SummarizeBy(operand, by, attributes, aggregates, slot, values) => {
-            summarize_by(
-                alloc, places, operand, by, attributes, aggregates, slot, values,
-            )
+        Step::Restriction(mut operand, slot, mut body, origin) => {
+            let names = inside(alloc, places, &mut operand, slot, &mut body);
+            named(Step::Restriction(operand, slot, body, origin), names)
         }
-        Step::If(condition, consequent, alternative) => {
-            choice(alloc, places, condition, consequent, alternative)
+        Step::Extend(mut operand, columns, slot, mut values) => {
+            let names = all_inside(alloc, places, &mut operand, slot, &mut values);
+            named(Step::Extend(operand, columns, slot, values), names)
+        }
+        Step::Aggregate(op, mut operand, slot, mut body) => {
+            let names = inside(alloc, places, &mut operand, slot, &mut body);
+            named(Step::Aggregate(op, operand, slot, body), names)
+        }
+        Step::SummarizePer(mut operand, mut per, columns, aggregates, slot, mut values) => {
+            let names = all_inside_both(alloc, places, &mut operand, &mut per, slot, &mut values);
+            let step = Step::SummarizePer(operand, per, columns, aggregates, slot, values);
+            named(step, names)
+        }
+        Step::SummarizeBy(mut operand, by, columns, aggregates, slot, mut values) => {
+            let names = all_inside(alloc, places, &mut operand, slot, &mut values);
+            let step = Step::SummarizeBy(operand, by, columns, aggregates, slot, values);
+            named(step, names)
+        }
+        Step::If(mut condition, mut then, mut other) => {
+            let names = three(alloc, places, &mut condition, &mut then, &mut other);
+            named(Step::If(condition, then, other), names)
         }
         Step::Bound {
             slot,
-            reach: _,
             items,
             value,
+            ..
         } => bound(alloc, places, slot, items, value),
-        Step::Once {
-            place: _,
-            reach: _,
-            part,
-        } => named_step(alloc, places, Box::into_inner(part)),
+        Step::Once { part, .. } => named_step(alloc, places, Box::into_inner(part)),
     }
 }
 
@@ -189,7 +183,7 @@ fn named_step(alloc: Global, places: &mut usize, step: Step) -> Result<NamedStep
 
 /// Keeps the answers of parts of two steps, and of the one that does not reach as far.
 #[cycle(remember)]
-pub(crate) fn both(
+fn both(
     alloc: Global,
     places: &mut usize,
     left: &mut Step,
@@ -209,7 +203,7 @@ pub(crate) fn both(
 
 /// Keeps the answers of parts of three steps, and of those that do not reach as far.
 #[cycle(remember)]
-pub(crate) fn three(
+fn three(
     alloc: Global,
     places: &mut usize,
     first: &mut Step,
@@ -230,7 +224,7 @@ pub(crate) fn three(
 
 /// Keeps the answers of parts of an operand, and of what is applied to the tuple in the slot.
 #[cycle(remember)]
-pub(crate) fn inside(
+fn inside(
     alloc: Global,
     places: &mut usize,
     operand: &mut Step,
@@ -269,11 +263,7 @@ fn remember_all(
 /// Keeps the answers of parts of steps that stand side by side, and of those that do not reach as
 /// far as others.
 #[cycle(remember)]
-pub(crate) fn all(
-    alloc: Global,
-    places: &mut usize,
-    steps: &mut Vec<Step>,
-) -> Result<Vec<usize>, AllocError>
+fn all(alloc: Global, places: &mut usize, steps: &mut Vec<Step>) -> Result<Vec<usize>, AllocError>
     ensures { IfOk result (λ names. AreAllRemembered places.old places.new names.items
         steps.old.items steps.new.items) }
 {
@@ -285,7 +275,7 @@ pub(crate) fn all(
 
 /// Keeps the answers of parts of an operand, and of all that is applied to the tuple in the slot.
 #[cycle(remember)]
-pub(crate) fn all_inside(
+fn all_inside(
     alloc: Global,
     places: &mut usize,
     operand: &mut Step,
@@ -306,7 +296,7 @@ pub(crate) fn all_inside(
 
 /// Keeps the answers of parts of two operands, and of all that is applied to the tuple in the slot.
 #[cycle(remember)]
-pub(crate) fn all_inside_both(
+fn all_inside_both(
     alloc: Global,
     places: &mut usize,
     operand: &mut Step,
@@ -328,9 +318,9 @@ pub(crate) fn all_inside_both(
 /// The slots that tuples in slots of their own and what stands behind them name together, and the
 /// first one from which on the tuples name none but their own.
 #[derive(Drop)]
-pub(crate) struct BoundNames {
-    pub(crate) names: Vec<usize>,
-    pub(crate) reach: usize,
+struct BoundNames {
+    names: Vec<usize>,
+    reach: usize,
 }
 
 /// The slots that tuples in slots from this one on name beside their own, those that what stands
@@ -355,7 +345,7 @@ fn bound_names(
 /// Keeps the answers of parts of tuples that come into slots from this one on, and of what stands
 /// where they are in scope.
 #[cycle(remember)]
-pub(crate) fn all_bound(
+fn all_bound(
     alloc: Global,
     places: &mut usize,
     slot: usize,
@@ -374,20 +364,27 @@ pub(crate) fn all_bound(
     Ok(bound)
 }
 
-/// A step with the parts whose answers are kept, and how many places these have.
-#[derive(Drop)]
-pub(crate) struct RememberedStep {
-    pub(crate) step: Step,
-    pub(crate) places: usize,
-}
-
-/// The step, with the parts whose answers are kept: it has the same value.
-pub(crate) fn remembered(alloc: Global, step: Step) -> Result<RememberedStep, AllocError>
-    ensures view { IfOk result (λ r. step_view r.step ≡ step_view step) }
-    ensures runnable { IfOk result (λ r. IsRunnable r.step) }
+/// What stands where the values of items are in scope.
+#[cycle(remember)]
+fn bound(
+    alloc: Global,
+    places: &mut usize,
+    slot: usize,
+    mut items: Vec<Step>,
+    mut value: Box<Step>,
+) -> Result<NamedStep, AllocError>
+    ensures { IfOk result (λ named. (reach : ℕ) → IsRemembered places.old places.new
+        named.names.items (variants.Bound slot reach items value) named.step) }
 {
-    let mut step = step;
-    let mut places = 0;
-    remember(alloc, &mut places, &mut step)?;
-    Ok(RememberedStep { step, places })
+    let bound = all_bound(alloc, places, slot, &mut items, &mut value)?;
+    let step = Step::Bound {
+        slot,
+        reach: bound.reach,
+        items,
+        value,
+    };
+    Ok(NamedStep {
+        step,
+        names: bound.names,
+    })
 }

@@ -1,60 +1,26 @@
 //! The steps of SUMMARIZE.
-ghost use Rattle.std.specs.Prelude.{◌≡◌, ◌+◌, IfNone, IfOk, IfSome, List, length, map};
-ghost use Rattle.std.specs.Prelude.{suc, true};
-ghost use Rattle.td_check.specs.Scopes.{Scope, entered_with};
-ghost use Rattle.td_check.specs.StaticTypes.{type_of};
+ghost use Rattle.std.specs.Prelude.{◌≡◌, ◌+◌, IfOk, map, suc, true};
+ghost use Rattle.td_check.specs.Scopes.{entered_with};
 ghost use Rattle.td_eval.specs.AggregateValues.{summary_attributes};
 ghost use Rattle.td_eval.specs.code.Totals.{asked_by};
-ghost use Rattle.td_plan.specs.code.PlannedParts.{AreFoundColumns, ArePlanned};
-ghost use Rattle.td_plan.specs.code.PlannedParts.{ArePlannedColumns, IsBoxPlanned, IsPlanned};
+ghost use Rattle.td_plan.specs.code.PlannedParts.{AreFoundColumns, ArePlanned, IsPlanned};
 ghost use Rattle.td_plan.specs.code.PlannedParts.{in_summaries, item_tree};
 ghost use Rattle.td_plan.specs.code.PlansBelow.{PlansBelow};
-ghost use Rattle.td_plan.specs.PlansOf.{IsPlanOfTyped};
-ghost use Rattle.td_plan.specs.code.StepViews.{step_view};
-ghost use Rattle.td_plan.specs.code.TreeWeights.{expr_weight, item_weight};
-ghost use Rattle.td_plan.specs.code.TreeWeights.{summaries_weight};
-ghost use Rattle.td_plan.specs.SummaryItems.{aggregates_in};
-ghost use Rattle.td_tree.specs.Outcomes.{Valued};
+ghost use Rattle.td_plan.specs.code.TreeWeights.{expr_weight, item_weight, summaries_weight};
 ghost use Rattle.td_tree.specs.code.TreeViews.{attributes_view, summaries_view, tree_view};
 ghost use Rattle.td_tree.specs.Trees as trees;
-ghost use Rattle.td_tree.specs.Trees.{Tree};
-ghost use Rattle.td_types.specs.Types as types;
-ghost use Rattle.td_types.specs.Types.{Attribute, Heading, pack};
-ghost use Rattle.td_types.specs.code.Views.{pairs_view};
+ghost use Rattle.td_types.specs.Types.{Heading};
 
-use crate::making::in_tuples::{NewColumns, new_columns};
 use crate::making::planner::{Known, Planner};
-use crate::making::planning::Planning;
+use crate::making::planning::{NewColumns, Planning};
 use crate::plan::step::Step;
 use std::alloc::{AllocError, Global};
-use td_check::scope::Scope;
 use td_eval::operators::summaries::{asked_by, item_attributes};
 use td_group::aggregates::Agg;
 use td_tree::expression::{Attributes, Expr, Summary};
 use td_tree::fault::Fault;
-use td_tree::name::Name;
 use td_types::heading::Heading;
-use td_types::ty::Ty;
 use td_value::value::Value;
-
-/// The attributes that items add, with their types: none where they have no types.
-pub(crate) fn attributes_of(
-    alloc: Global,
-    scope: &Scope<'_>,
-    items: &[Summary],
-) -> Result<Option<Vec<(Name, Ty)>>, AllocError>
-    ensures some { IfOk result (λ found. IfSome found (λ xs.
-        summary_attributes scope.now (summaries_view items.now)
-        ≡ Valued (pairs_view xs.items))) }
-    ensures none { IfOk result (λ found. IfNone found ((xs : List Attribute)
-        → summary_attributes scope.now (summaries_view items.now) ≡ Valued xs → ⊥)) }
-{
-    match item_attributes(alloc, scope, items) {
-        Ok(attributes) => Ok(Some(attributes)),
-        Err(Fault::Refused(_)) => Ok(None),
-        Err(Fault::Memory) => Err(AllocError),
-    }
-}
 
 /// The aggregates that items of SUMMARIZE name, in the order written.
 pub(crate) fn aggregates_of(alloc: Global, items: &[Summary]) -> Result<Vec<Agg>, AllocError>
@@ -67,62 +33,6 @@ pub(crate) fn aggregates_of(alloc: Global, items: &[Summary]) -> Result<Vec<Agg>
     Ok(aggregates)
 }
 
-/// The step of what COUNT counts: a term for each tuple.
-pub(crate) fn count_step() -> Step
-    ensures { (scope : Scope)
-        → IsPlanOfTyped scope (step_view result) (trees.literal (trees.truth true)) }
-{
-    Step::Constant(Value::bool(true))
-}
-
-/// The step of SUMMARIZE of an operand by the tuples of another relation, with new attributes,
-/// which are these aggregates.
-#[inline(never)]
-pub(crate) fn summary_step(
-    operand: Result<Box<Step>, AllocError>,
-    per: Result<Box<Step>, AllocError>,
-    aggregates: Result<Vec<Agg>, AllocError>,
-    slot: usize,
-    columns: NewColumns,
-) -> Result<Step, AllocError>
-    ensures { (scope : Scope) (d q : Tree) (items : trees.Summaries) (h : Heading)
-        → slot ≡ length scope.entered → IsBoxPlanned scope operand d → IsBoxPlanned scope per q
-        → type_of scope d ≡ Valued (types.relation (pack h))
-        → IfOk aggregates (λ xs. xs.items ≡ aggregates_in items)
-        → ArePlannedColumns (entered_with h scope) columns
-        (summary_attributes (entered_with h scope) items) (in_summaries items)
-        → IsPlanned scope result (trees.summarize_per d q items) }
-{
-    let NewColumns { attributes, values } = columns;
-    let aggregates = aggregates?;
-    let operand = operand?;
-    Ok(Step::SummarizePer(operand, per?, attributes, aggregates, slot, values))
-}
-
-/// The step of SUMMARIZE of an operand by some of its attributes, with new attributes, which are
-/// these aggregates.
-#[inline(never)]
-pub(crate) fn summary_by_step(
-    operand: Result<Box<Step>, AllocError>,
-    by: &Attributes,
-    aggregates: Result<Vec<Agg>, AllocError>,
-    slot: usize,
-    columns: NewColumns,
-) -> Result<Step, AllocError>
-    ensures { (scope : Scope) (d : Tree) (items : trees.Summaries) (h : Heading)
-        → slot ≡ length scope.entered → IsBoxPlanned scope operand d
-        → type_of scope d ≡ Valued (types.relation (pack h))
-        → IfOk aggregates (λ xs. xs.items ≡ aggregates_in items)
-        → ArePlannedColumns (entered_with h scope) columns
-        (summary_attributes (entered_with h scope) items) (in_summaries items)
-        → IsPlanned scope result (trees.summarize_by d (attributes_view by.now) items) }
-{
-    let NewColumns { attributes, values } = columns;
-    let aggregates = aggregates?;
-    let by = by.try_clone()?;
-    Ok(Step::SummarizeBy(operand?, by, attributes, aggregates, slot, values))
-}
-
 impl<C: Known, F> Planning<'_, C, F>
 where
     F: Fn(&Planner<'_, C>, &Expr) -> Result<Step, AllocError> + Copy,
@@ -130,11 +40,10 @@ where
     /// The step of what an item is of in a tuple.
     fn item_step(&self, item: &Summary) -> Result<Step, AllocError>
         requires { PlansBelow C.database self.now (suc (item_weight item.now)) F.pre F.post }
-        ensures { IfOk result
-            (λ p. IsPlanOfTyped self.now.planner.now.scope (step_view p) (item_tree item.now)) }
+        ensures { IsPlanned self.now.planner.now.scope result (item_tree item.now) }
     {
         match item {
-            Summary::Count(_) => Ok(count_step()),
+            Summary::Count(_) => Ok(Step::Constant(Value::bool(true))),
             Summary::Of(_, value, _) => self.step_of(value),
         }
     }
@@ -153,24 +62,9 @@ where
         Ok(steps)
     }
 
-    /// The new attributes that items give to a group; none where these have no types.
-    fn item_columns(&self, items: &[Summary]) -> Result<Option<NewColumns>, AllocError>
-        requires { PlansBelow C.database self.now
-            (suc (summaries_weight (summaries_view items.now))) F.pre F.post }
-        ensures { IfOk result (λ found. AreFoundColumns self.now.planner.now.scope found
-            (summary_attributes self.now.planner.now.scope (summaries_view items.now))
-            (in_summaries (summaries_view items.now))) }
-    {
-        let alloc = self.planner.alloc;
-        let Some(attributes) = attributes_of(alloc, &self.planner.scope, items)? else {
-            return Ok(None);
-        };
-        let columns = new_columns(attributes, self.item_steps(items))?;
-        Ok(Some(columns))
-    }
-
-    /// The same where a further tuple, of the heading, is in hand.
-    fn item_columns_inside(
+    /// The new attributes that items give to a group of tuples of the heading; none where these
+    /// have no types.
+    fn item_columns(
         &self,
         heading: &Heading,
         items: &[Summary],
@@ -182,12 +76,19 @@ where
             (summary_attributes (entered_with heading.now self.now.planner.now.scope)
             (summaries_view items.now)) (in_summaries (summaries_view items.now))) }
     {
-        let inner = self.planner.inner_planner(heading)?;
-        Planning {
-            planner: &inner,
-            inner: self.inner,
+        let planner = self.planner.inner_planner(heading)?;
+        match item_attributes(planner.alloc, &planner.scope, items) {
+            Ok(attributes) => {
+                let inner = Planning {
+                    planner: &planner,
+                    inner: self.inner,
+                };
+                let values = inner.item_steps(items)?;
+                Ok(Some(NewColumns { attributes, values }))
+            }
+            Err(Fault::Refused(_)) => Ok(None),
+            Err(Fault::Memory) => Err(AllocError),
         }
-        .item_columns(items)
     }
 
     /// The step of SUMMARIZE of an operand by the tuples of another relation.
@@ -206,18 +107,15 @@ where
         let Some(heading) = self.planner.heading_of(operand)? else {
             return self.step_of(operand);
         };
-        let Some(columns) = self.item_columns_inside(&heading, items)? else {
+        let Some(columns) = self.item_columns(&heading, items)? else {
             return self.step_of(operand);
         };
+        let NewColumns { attributes, values } = columns;
         let slot = self.planner.next_slot();
-        let aggregates = aggregates_of(self.planner.alloc, items);
-        summary_step(
-            self.boxed_step(operand),
-            self.boxed_step(per),
-            aggregates,
-            slot,
-            columns,
-        )
+        let aggregates = aggregates_of(self.planner.alloc, items)?;
+        let operand = self.boxed_step(operand)?;
+        let per = self.boxed_step(per)?;
+        Ok(Step::SummarizePer(operand, per, attributes, aggregates, slot, values))
     }
 
     /// The step of SUMMARIZE of an operand by some of its attributes.
@@ -236,11 +134,14 @@ where
         let Some(heading) = self.planner.heading_of(operand)? else {
             return self.step_of(operand);
         };
-        let Some(columns) = self.item_columns_inside(&heading, items)? else {
+        let Some(columns) = self.item_columns(&heading, items)? else {
             return self.step_of(operand);
         };
+        let NewColumns { attributes, values } = columns;
         let slot = self.planner.next_slot();
-        let aggregates = aggregates_of(self.planner.alloc, items);
-        summary_by_step(self.boxed_step(operand), by, aggregates, slot, columns)
+        let aggregates = aggregates_of(self.planner.alloc, items)?;
+        let by = by.try_clone()?;
+        let operand = self.boxed_step(operand)?;
+        Ok(Step::SummarizeBy(operand, by, attributes, aggregates, slot, values))
     }
 }

@@ -3,12 +3,11 @@ use crate::plan::Plan;
 use crate::plan::step::{Dyadic, Monadic, Origin, Selector, Step};
 use std::alloc::{AllocError, Global};
 use td_group::aggregates::Agg;
-use td_tree::expression::{Attributes, Postfix, Renaming};
+use td_tree::expression::{Attributes, Postfix};
 use td_tree::name::Name;
 use td_tree::operator::{Comparison, Operator, Prefix};
 use td_types::text::put_comma;
 use td_types::ty::Ty;
-use td_value::value::Value;
 
 /// The plan as a tree of lines: what stands under a step is indented by two blanks. What is
 /// evaluated once, until a tuple that it names is another one, stands under `ONCE`.
@@ -19,6 +18,34 @@ pub fn explain(alloc: Global, plan: &Plan) -> Result<String, AllocError> {
     };
     outline.step(0, &plan.step)?;
     Ok(outline.text)
+}
+
+/// The first text and those of the items, with a comma between two items.
+fn listed<T, F>(alloc: Global, first: &str, items: &[T], put: F) -> Result<String, AllocError>
+where
+    F: Fn(&mut String, &T) -> Result<(), AllocError>,
+    requires { F.IsAlwaysCallable put }
+{
+    let mut text = String::new(alloc);
+    text.push_str(first)?;
+    for (place, item) in items.iter().enumerate() {
+        put_comma(&mut text, place > 0)?;
+        put(&mut text, item)?;
+    }
+    Ok(text)
+}
+
+/// The first text and the names.
+fn listed_names(alloc: Global, first: &str, names: &[Name]) -> Result<String, AllocError> {
+    listed(alloc, first, names, |out, name| out.push_str(name.as_str()))
+}
+
+/// The attributes as they are listed.
+fn listed_attributes(alloc: Global, attributes: &Attributes) -> Result<String, AllocError> {
+    match attributes {
+        Attributes::Only(names) => listed_names(alloc, "", names),
+        Attributes::AllBut(names) => listed_names(alloc, "ALL BUT ", names),
+    }
 }
 
 /// Lines, one below the other.
@@ -34,12 +61,18 @@ impl Outline {
     fn step(&mut self, indent: usize, step: &Step) -> Result<(), AllocError> {
         let inner = indent.saturating_add(1);
         match step {
-            Step::Constant(value) => self.constant(indent, value),
-            Step::Refused(cause) => self.line_of(indent, "REFUSED", cause.name()),
-            Step::Attribute { slot, place } => self.places(indent, "ATTRIBUTE", *slot, *place),
-            Step::Relvar(name) => self.line_of(indent, "RELVAR", name.as_str()),
+            Step::Constant(value) => {
+                let literal = value.literal(self.alloc)?;
+                self.line(indent, &[literal.as_str()])
+            }
+            Step::Refused(cause) => self.line(indent, &["REFUSED ", cause.name()]),
+            Step::Attribute { slot, place } => {
+                let text = format!(in self.alloc; "ATTRIBUTE {slot} {place}")?;
+                self.line(indent, &[text.as_str()])
+            }
+            Step::Relvar(name) => self.line(indent, &["RELVAR ", name.as_str()]),
             Step::LookUp(name, _, part) => {
-                self.line_of(indent, "LOOKUP", name.as_str())?;
+                self.line(indent, &["LOOKUP ", name.as_str()])?;
                 self.step(inner, part)
             }
             Step::Monadic(op, operand) => {
@@ -58,8 +91,8 @@ impl Outline {
                 self.one(indent, restriction_word(*origin), operand)?;
                 self.one(inner, "CONDITION", condition)
             }
-            Step::Extend(operand, attributes, _, values) => {
-                self.line_of_attributes(indent, "EXTEND", attributes)?;
+            Step::Extend(operand, columns, _, values) => {
+                self.columns(indent, "EXTEND ", columns)?;
                 self.step(inner, operand)?;
                 self.list(inner, "VALUES", values)
             }
@@ -67,244 +100,166 @@ impl Outline {
                 self.one(indent, op.keyword().word(), operand)?;
                 self.one(inner, "VALUE", value)
             }
-            Step::SummarizePer(operand, per, attributes, aggregates, _, values) => {
-                self.line_of_attributes(indent, "SUMMARIZE", attributes)?;
+            Step::SummarizePer(operand, per, columns, aggregates, _, values) => {
+                self.columns(indent, "SUMMARIZE ", columns)?;
                 self.step(inner, operand)?;
                 self.one(inner, "PER", per)?;
-                self.aggregates(inner, aggregates)?;
-                self.list(inner, "VALUES", values)
+                self.aggregates(inner, aggregates, values)
             }
-            Step::SummarizeBy(operand, by, attributes, aggregates, _, values) => {
-                self.line_of_attributes(indent, "SUMMARIZE", attributes)?;
+            Step::SummarizeBy(operand, by, columns, aggregates, _, values) => {
+                self.columns(indent, "SUMMARIZE ", columns)?;
                 self.step(inner, operand)?;
-                self.line_of_listed(inner, "BY", by)?;
-                self.aggregates(inner, aggregates)?;
-                self.list(inner, "VALUES", values)
+                let by = listed_attributes(self.alloc, by)?;
+                self.line(inner, &["BY ", by.as_str()])?;
+                self.aggregates(inner, aggregates, values)
             }
             Step::If(condition, consequent, alternative) => {
                 self.one(indent, "IF", condition)?;
                 self.one(inner, "THEN", consequent)?;
                 self.one(inner, "ELSE", alternative)
             }
-            Step::Bound {
-                slot: _,
-                reach: _,
-                items,
-                value,
-            } => {
+            Step::Bound { items, value, .. } => {
                 self.list(indent, "WITH", items)?;
                 self.one(inner, "VALUE", value)
             }
-            Step::Once {
-                place: _,
-                reach: _,
-                part,
-            } => self.one(indent, "ONCE", part),
+            Step::Once { part, .. } => self.one(indent, "ONCE", part),
         }
     }
 
     /// A word, and a step below it.
     #[cycle(explain)]
-    fn one(&mut self, indent: usize, word: &str, step: &Box<Step>) -> Result<(), AllocError> {
-        self.line(indent, word)?;
+    fn one(&mut self, indent: usize, word: &str, step: &Step) -> Result<(), AllocError> {
+        self.line(indent, &[word])?;
         self.step(indent.saturating_add(1), step)
     }
 
     /// A word, and steps below it.
     #[cycle(explain)]
-    fn list(&mut self, indent: usize, word: &str, steps: &Vec<Step>) -> Result<(), AllocError> {
-        self.line(indent, word)?;
+    fn list(&mut self, indent: usize, word: &str, steps: &[Step]) -> Result<(), AllocError> {
+        self.line(indent, &[word])?;
         self.steps(indent.saturating_add(1), steps)
     }
 
     /// Steps, one below the other.
     #[cycle(explain)]
-    fn steps(&mut self, indent: usize, steps: &Vec<Step>) -> Result<(), AllocError> {
+    fn steps(&mut self, indent: usize, steps: &[Step]) -> Result<(), AllocError> {
         for step in steps {
             self.step(indent, step)?;
         }
         Ok(())
     }
 
-    /// The blanks before a line, and its first word.
-    fn begin(&mut self, indent: usize, word: &str) -> Result<(), AllocError> {
-        for _ in 0..indent {
-            self.text.push_str("  ")?;
-        }
-        self.text.push_str(word)
+    /// The aggregates of a summary, and the steps of what they are of.
+    #[cycle(explain)]
+    fn aggregates(
+        &mut self,
+        indent: usize,
+        aggregates: &[Agg],
+        values: &[Step],
+    ) -> Result<(), AllocError> {
+        let words = listed(self.alloc, "AGGREGATES ", aggregates, |out, aggregate| {
+            out.push_str(aggregate_word(*aggregate))
+        })?;
+        self.line(indent, &[words.as_str()])?;
+        self.list(indent, "VALUES", values)
     }
 
-    fn line(&mut self, indent: usize, word: &str) -> Result<(), AllocError> {
-        self.begin(indent, word)?;
-        self.text.push_str("\n")
-    }
-
-    /// A line of a word and what it is about.
-    fn line_of(&mut self, indent: usize, word: &str, name: &str) -> Result<(), AllocError> {
-        self.begin(indent, word)?;
-        self.text.push_str(" ")?;
-        self.text.push_str(name)?;
-        self.text.push_str("\n")
-    }
-
-    fn constant(&mut self, indent: usize, value: &Value) -> Result<(), AllocError> {
-        let literal = value.literal(self.alloc)?;
-        self.line(indent, literal.as_str())
-    }
-
-    /// A line of a word, a slot and a place.
-    fn places(
+    /// A line of a word and the names of new attributes.
+    fn columns(
         &mut self,
         indent: usize,
         word: &str,
-        slot: usize,
-        place: usize,
+        columns: &[(Name, Ty)],
     ) -> Result<(), AllocError> {
-        self.begin(indent, word)?;
-        self.number(slot)?;
-        self.number(place)?;
-        self.text.push_str("\n")
+        let alloc = self.alloc;
+        let names = listed(
+            alloc,
+            word,
+            columns,
+            |out, column| out.push_str(column.0.as_str()),
+        )?;
+        self.line(indent, &[names.as_str()])
     }
 
-    /// A blank and a number.
-    fn number(&mut self, n: usize) -> Result<(), AllocError> {
-        let mut buffer = itoa::Buffer::new();
-        self.text.push_str(" ")?;
-        self.text.push_str(buffer.format(n))
-    }
-
-    /// A blank, and names with a comma between two.
-    fn names(&mut self, names: &[Name]) -> Result<(), AllocError> {
-        self.text.push_str(" ")?;
-        let mut later = false;
-        for name in names {
-            put_comma(&mut self.text, later)?;
-            self.text.push_str(name.as_str())?;
-            later = true;
+    /// The blanks before a line.
+    fn blanks(&mut self, indent: usize) -> Result<(), AllocError> {
+        for _ in 0..indent {
+            self.text.push_str("  ")?;
         }
         Ok(())
     }
 
-    fn line_of_names(
-        &mut self,
-        indent: usize,
-        word: &str,
-        names: &[Name],
-    ) -> Result<(), AllocError> {
-        self.begin(indent, word)?;
-        self.names(names)?;
-        self.text.push_str("\n")
-    }
-
-    fn line_of_attributes(
-        &mut self,
-        indent: usize,
-        word: &str,
-        attributes: &[(Name, Ty)],
-    ) -> Result<(), AllocError> {
-        self.begin(indent, word)?;
-        self.text.push_str(" ")?;
-        let mut later = false;
-        for (name, _) in attributes {
-            put_comma(&mut self.text, later)?;
-            self.text.push_str(name.as_str())?;
-            later = true;
+    /// A line of texts, one behind the other.
+    fn line(&mut self, indent: usize, texts: &[&str]) -> Result<(), AllocError> {
+        self.blanks(indent)?;
+        for text in texts {
+            self.text.push_str(text)?;
         }
         self.text.push_str("\n")
     }
 
-    /// A blank, and the attributes as they are listed.
-    fn listed_attributes(&mut self, attributes: &Attributes) -> Result<(), AllocError> {
-        match attributes {
-            Attributes::Only(names) => self.names(names),
-            Attributes::AllBut(names) => {
-                self.text.push_str(" ALL BUT")?;
-                self.names(names)
-            }
-        }
-    }
-
-    fn line_of_listed(
-        &mut self,
-        indent: usize,
-        word: &str,
-        attributes: &Attributes,
-    ) -> Result<(), AllocError> {
-        self.begin(indent, word)?;
-        self.listed_attributes(attributes)?;
-        self.text.push_str("\n")
-    }
-
-    /// A line of a word, the attributes that it gathers, and the name that they become.
-    fn gathering(
-        &mut self,
-        indent: usize,
-        word: &str,
-        attributes: &Attributes,
-        name: &Name,
-    ) -> Result<(), AllocError> {
-        self.begin(indent, word)?;
-        self.listed_attributes(attributes)?;
-        self.text.push_str(" AS ")?;
-        self.text.push_str(name.as_str())?;
-        self.text.push_str("\n")
-    }
-
-    fn renamings(&mut self, indent: usize, renamings: &[Renaming]) -> Result<(), AllocError> {
-        self.begin(indent, "RENAME ")?;
-        let mut later = false;
-        for renaming in renamings {
-            put_comma(&mut self.text, later)?;
-            self.text.push_str(renaming.old.as_str())?;
-            self.text.push_str(" AS ")?;
-            self.text.push_str(renaming.new.as_str())?;
-            later = true;
-        }
-        self.text.push_str("\n")
-    }
-
+    /// The line of an operator that stands behind its operand.
     fn postfix(&mut self, indent: usize, op: &Postfix) -> Result<(), AllocError> {
+        let alloc = self.alloc;
         match op {
-            Postfix::Project(attributes) => self.line_of_listed(indent, "PROJECTION", attributes),
-            Postfix::Rename(_, renamings) => self.renamings(indent, renamings),
-            Postfix::Group(_, attributes, name) => {
-                self.gathering(indent, "GROUP", attributes, name)
+            Postfix::Project(attributes) => {
+                let attributes = listed_attributes(alloc, attributes)?;
+                self.line(indent, &["PROJECTION ", attributes.as_str()])
             }
-            Postfix::Ungroup(name) => self.line_of(indent, "UNGROUP", name.as_str()),
-            Postfix::Wrap(_, attributes, name) => self.gathering(indent, "WRAP", attributes, name),
-            Postfix::Unwrap(name) => self.line_of(indent, "UNWRAP", name.as_str()),
+            Postfix::Rename(_, renamings) => {
+                let renamings = listed(alloc, "RENAME ", renamings, |out, renaming| {
+                    write!(
+                        out,
+                        "{} AS {}",
+                        renaming.old.as_str(),
+                        renaming.new.as_str()
+                    )
+                })?;
+                self.line(indent, &[renamings.as_str()])
+            }
+            Postfix::Group(_, attributes, name) => {
+                let attributes = listed_attributes(alloc, attributes)?;
+                self.line(
+                    indent,
+                    &["GROUP ", attributes.as_str(), " AS ", name.as_str()],
+                )
+            }
+            Postfix::Ungroup(name) => self.line(indent, &["UNGROUP ", name.as_str()]),
+            Postfix::Wrap(_, attributes, name) => {
+                let attributes = listed_attributes(alloc, attributes)?;
+                self.line(
+                    indent,
+                    &["WRAP ", attributes.as_str(), " AS ", name.as_str()],
+                )
+            }
+            Postfix::Unwrap(name) => self.line(indent, &["UNWRAP ", name.as_str()]),
         }
     }
 
     /// The line of an operator of one operand.
     fn monadic(&mut self, indent: usize, op: &Monadic) -> Result<(), AllocError> {
         match op {
-            Monadic::Prefix(op) => self.line(indent, prefix_word(*op)),
-            Monadic::Extract(attribute) => self.line_of(indent, "FROM", attribute.as_str()),
+            Monadic::Prefix(op) => self.line(indent, &[prefix_word(*op)]),
+            Monadic::Extract(attribute) => self.line(indent, &["FROM ", attribute.as_str()]),
             Monadic::Postfix(op) => self.postfix(indent, op),
-            Monadic::Component(rest) => self.line_of(indent, "COMPONENT", rest.as_str()),
-            Monadic::Measure(op) => self.line(indent, op.keyword().word()),
+            Monadic::Component(rest) => self.line(indent, &["COMPONENT ", rest.as_str()]),
+            Monadic::Measure(op) => self.line(indent, &[op.keyword().word()]),
         }
     }
 
+    /// The line of what makes a value of parts.
     fn selector(&mut self, indent: usize, selector: &Selector) -> Result<(), AllocError> {
         match selector {
-            Selector::User(name) => self.line(indent, name.as_str()),
-            Selector::Relation => self.line(indent, "RELATION"),
-            Selector::HeadedRelation(_) => self.line(indent, "RELATION OF HEADING"),
-            Selector::Tuple(names) => self.line_of_names(indent, "TUPLE", names),
+            Selector::User(name) => self.line(indent, &[name.as_str()]),
+            Selector::Relation => self.line(indent, &["RELATION"]),
+            Selector::HeadedRelation(_) => self.line(indent, &["RELATION OF HEADING"]),
+            Selector::Tuple(names) => {
+                self.line(
+                    indent,
+                    &[listed_names(self.alloc, "TUPLE ", names)?.as_str()],
+                )
+            }
         }
-    }
-
-    fn aggregates(&mut self, indent: usize, aggregates: &[Agg]) -> Result<(), AllocError> {
-        self.begin(indent, "AGGREGATES ")?;
-        let mut later = false;
-        for aggregate in aggregates {
-            put_comma(&mut self.text, later)?;
-            self.text.push_str(aggregate_word(*aggregate))?;
-            later = true;
-        }
-        self.text.push_str("\n")
     }
 }
 
@@ -316,6 +271,7 @@ fn restriction_word(origin: Origin) -> &'static str {
     }
 }
 
+/// What an operator before its operand is called.
 fn prefix_word(op: Prefix) -> &'static str {
     match op {
         Prefix::Not => "NOT",
@@ -325,49 +281,38 @@ fn prefix_word(op: Prefix) -> &'static str {
     }
 }
 
-fn dyadic_word(op: Dyadic) -> &'static str {
-    match op {
-        Dyadic::Operator(op) => operator_word(op),
-        Dyadic::Comparison(op) => comparison_word(op),
-    }
-}
-
 /// What a step between operands does. Partners in a join are found by a hash of the common
 /// attributes.
-fn operator_word(op: Operator) -> &'static str {
+fn dyadic_word(op: Dyadic) -> &'static str {
     match op {
-        Operator::Or => "OR",
-        Operator::And => "AND",
-        Operator::Union => "UNION",
-        Operator::Intersect => "INTERSECT",
-        Operator::Minus => "MINUS",
-        Operator::Join => "HASHJOIN",
-        Operator::Times => "TIMES",
-        Operator::Compose => "COMPOSE BY HASHJOIN",
-        Operator::Matching => "MATCHING BY HASHJOIN",
-        Operator::NotMatching => "NOT MATCHING BY HASHJOIN",
-        Operator::DisjointUnion => "D_UNION",
-        Operator::IncludedMinus => "I_MINUS",
-        Operator::Add => "+",
-        Operator::Subtract => "-",
-        Operator::Concatenate => "||",
-        Operator::Multiply => "*",
-        Operator::Divide => "/",
+        Dyadic::Operator(Operator::Or) => "OR",
+        Dyadic::Operator(Operator::And) => "AND",
+        Dyadic::Operator(Operator::Union) => "UNION",
+        Dyadic::Operator(Operator::Intersect) => "INTERSECT",
+        Dyadic::Operator(Operator::Minus) => "MINUS",
+        Dyadic::Operator(Operator::Join) => "HASHJOIN",
+        Dyadic::Operator(Operator::Times) => "TIMES",
+        Dyadic::Operator(Operator::Compose) => "COMPOSE BY HASHJOIN",
+        Dyadic::Operator(Operator::Matching) => "MATCHING BY HASHJOIN",
+        Dyadic::Operator(Operator::NotMatching) => "NOT MATCHING BY HASHJOIN",
+        Dyadic::Operator(Operator::DisjointUnion) => "D_UNION",
+        Dyadic::Operator(Operator::IncludedMinus) => "I_MINUS",
+        Dyadic::Operator(Operator::Add) => "+",
+        Dyadic::Operator(Operator::Subtract) => "-",
+        Dyadic::Operator(Operator::Concatenate) => "||",
+        Dyadic::Operator(Operator::Multiply) => "*",
+        Dyadic::Operator(Operator::Divide) => "/",
+        Dyadic::Comparison(Comparison::Equal) => "=",
+        Dyadic::Comparison(Comparison::NotEqual) => "<>",
+        Dyadic::Comparison(Comparison::Less) => "<",
+        Dyadic::Comparison(Comparison::LessOrEqual) => "<=",
+        Dyadic::Comparison(Comparison::Greater) => ">",
+        Dyadic::Comparison(Comparison::GreaterOrEqual) => ">=",
+        Dyadic::Comparison(Comparison::In) => "IN",
     }
 }
 
-fn comparison_word(op: Comparison) -> &'static str {
-    match op {
-        Comparison::Equal => "=",
-        Comparison::NotEqual => "<>",
-        Comparison::Less => "<",
-        Comparison::LessOrEqual => "<=",
-        Comparison::Greater => ">",
-        Comparison::GreaterOrEqual => ">=",
-        Comparison::In => "IN",
-    }
-}
-
+/// What an aggregate of a summary is called.
 fn aggregate_word(aggregate: Agg) -> &'static str {
     match aggregate {
         Agg::Count => "COUNT",

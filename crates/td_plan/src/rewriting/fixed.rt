@@ -1,17 +1,15 @@
 //! Attributes that a condition fixes to values.
 ghost use Rattle.std.specs.List.{list_any};
-ghost use Rattle.std.specs.Prelude.{◌≡◌, IfOk, IfSome, IsTrue, suc};
+ghost use Rattle.std.specs.Prelude.{◌≡◌, IfOk, IsTrue, suc};
 ghost use Rattle.td_check.specs.CannotFail as unfailing;
 ghost use Rattle.td_check.specs.Scopes.{Scope};
 ghost use Rattle.td_plan.specs.Fixing.{AreOneWhere, HasTypeOf, IsNamedApart, MayFix};
-ghost use Rattle.td_plan.specs.Narrowing.{AreFixed, Implies, IsFixedTo};
+ghost use Rattle.td_plan.specs.Narrowing.{AreFixed, Implies};
 ghost use Rattle.td_plan.specs.code.PlansBelow.{PlansBelow};
-ghost use Rattle.td_plan.specs.code.StepViews.{step_view};
 ghost use Rattle.td_plan.specs.code.TreeWeights.{expr_weight};
 ghost use Rattle.td_tree.specs.declared.operator.Comparison.TheVariants as comparisons;
 ghost use Rattle.td_tree.specs.declared.operator.Operator.TheVariants as operators;
 ghost use Rattle.td_tree.specs.code.TreeViews.{tree_view};
-ghost use Rattle.td_tree.specs.Trees as trees;
 ghost use Rattle.td_tree.specs.Trees.{Tree};
 ghost use Rattle.td_tree.specs.WrittenTrees.{IsWritten};
 ghost use Rattle.td_types.specs.Headings.{has_attribute};
@@ -105,33 +103,10 @@ fn may_fix<C: Known>(
     ensures { IfOk result (λ b. IsTrue b
         → MayFix planner.now.scope heading.now name.now (tree_view value.now)) }
 {
-    if !is_brief(value) || !has_numbers(value) {
-        return Ok(false);
-    }
-    if !is_named_apart(planner.alloc, heading, value)? {
+    if !is_brief(value) || !has_numbers(value) || !is_named_apart(planner.alloc, heading, value)? {
         return Ok(false);
     }
     Ok(has_type_of(planner, heading, name, value)? && has_a_value(&planner.scope, value)?)
-}
-
-/// The name that an operand of an equality is, where the other operand fixes the attribute of it.
-fn fixed_name<C: Known>(
-    planner: &Planner<'_, C>,
-    heading: &Heading,
-    operand: &Expr,
-    value: &Expr,
-) -> Result<Option<Name>, AllocError>
-    ensures { IfOk result (λ found. IfSome found (λ n. (tree_view operand.now ≡ trees.name n)
-        × MayFix planner.now.scope heading.now n (tree_view value.now))) }
-{
-    let Expr::Name(name) = operand else {
-        return Ok(None);
-    };
-    if may_fix(planner, heading, name, value)? {
-        Ok(Some(name.try_clone()?))
-    } else {
-        Ok(None)
-    }
 }
 
 /// Whether the operator is AND.
@@ -146,20 +121,6 @@ fn is_equal(op: Comparison) -> bool
     ensures { IsTrue result → op ≡ comparisons.Equal }
 {
     matches!(op, Comparison::Equal)
-}
-
-/// Puts the attribute of the name, with the step of its value, after the others.
-fn put(
-    fixed: &mut Vec<FixedValue>,
-    name: Name,
-    value: Result<Step, AllocError>,
-) -> Result<(), AllocError>
-    ensures { IfOk result (λ _. (scope : Scope) (h : Heading) (e : Tree)
-        → IfOk value (λ p. IsFixedTo scope h e name (step_view p))
-        → AreFixed scope h e fixed.old.items → AreFixed scope h e fixed.new.items) }
-{
-    let value = value?;
-    Ok(fixed.push(FixedValue { name, value })?)
 }
 
 impl<C: Known, F> Planning<'_, C, F>
@@ -181,10 +142,15 @@ where
             → AreFixed self.now.planner.now.scope heading.now e fixed.old.items
             → AreFixed self.now.planner.now.scope heading.now e fixed.new.items) }
     {
-        match fixed_name(self.planner, heading, operand, value)? {
-            Some(name) => put(fixed, name, self.step_of(value)),
-            None => Ok(()),
+        let Expr::Name(name) = operand else {
+            return Ok(());
+        };
+        if !may_fix(self.planner, heading, name, value)? {
+            return Ok(());
         }
+        let name = name.try_clone()?;
+        let value = self.step_of(value)?;
+        Ok(fixed.push(FixedValue { name, value })?)
     }
 
     /// Puts the attributes of the heading that the condition's conjuncts fix after the others, each

@@ -1,5 +1,5 @@
 //! Operands of WHERE that are looked up by a key.
-ghost use Rattle.std.specs.Prelude.{◌++◌, ◌<◌, ◌≡◌, ◌∷◌, [], IfOk, IfSome, IsTrue, length, map};
+ghost use Rattle.std.specs.Prelude.{◌<◌, ◌≡◌, IfOk, IfSome, IsTrue, length, map};
 ghost use Rattle.std.specs.List.{Contains, HoldsAt};
 ghost use Rattle.td_check.specs.CannotFail.{cannot_fail};
 ghost use Rattle.td_check.specs.Scopes.{entered_with};
@@ -40,48 +40,35 @@ fn bare_name(expr: &Expr) -> Option<&Name>
     }
 }
 
-/// Whether another relation stands in the place of the relvar of the name.
-fn is_replaced<C: Known>(planner: &Planner<'_, C>, name: &Name) -> bool {
-    match planner.replaced {
-        Some(other) => *other == *name,
-        None => false,
-    }
+/// Whether a key of the base relvar of the name has attributes.
+fn has_key_attributes<C: Known>(planner: &Planner<'_, C>, name: &Name) -> bool {
+    let keys = planner.catalog.keys_of(name);
+    keys.is_some_and(|keys| keys.iter().any(|key| !key.is_empty()))
 }
 
-/// The name in an expression that is the name of a base relvar, which no attribute hides and in
-/// whose place no other relation stands.
+/// The name in an expression that is the name of a base relvar with a key of attributes, which no
+/// attribute hides and in whose place no other relation stands.
 pub(crate) fn base_named<'e, C: Known>(planner: &Planner<'_, C>, expr: &'e Expr) -> Option<&'e Name>
     ensures means { IfSome result (λ n. MeansName n.now (tree_view expr.now)) }
     ensures base { IfSome result (λ n. IsBase planner.now.scope n.now) }
 {
     let name = bare_name(expr)?;
-    if planner.scope.attribute(name).is_some() || is_replaced(planner, name) {
+    let is_replaced = planner.replaced.is_some_and(|other| *other == *name);
+    if is_replaced || planner.scope.attribute(name).is_some() {
         return None;
     }
     match planner.scope.relvar(name) {
-        Some((Kind::Base, _)) => Some(name),
+        Some((Kind::Base, _)) if has_key_attributes(planner, name) => Some(name),
         _ => None,
     }
 }
 
 // ---- the key
 
-/// Whether a key of the base relvar of the name has attributes.
-pub(crate) fn has_key_attributes<C: Known>(planner: &Planner<'_, C>, name: &Name) -> bool {
-    match planner.catalog.keys_of(name) {
-        Some(keys) => keys.iter().any(|key| !key.is_empty()),
-        None => false,
-    }
-}
-
-/// Whether one of the attributes has the name.
-fn is_fixed(fixed: &[FixedValue], name: &Name) -> bool {
-    fixed.iter().any(|attribute| attribute.name == *name)
-}
-
 /// Whether the key has attributes, and each is one of these.
 fn is_fixed_key(fixed: &[FixedValue], key: &[Name]) -> bool {
-    !key.is_empty() && key.iter().all(|name| is_fixed(fixed, name))
+    let is_fixed = |name: &Name| fixed.iter().any(|attribute| attribute.name == *name);
+    !key.is_empty() && key.iter().all(is_fixed)
 }
 
 /// The names of the first key of a base relvar whose attributes are all fixed.
@@ -180,20 +167,6 @@ fn copied_names(alloc: Global, names: &[Name]) -> Result<Vec<Name>, AllocError>
     Ok(copy)
 }
 
-/// Puts an attribute's name, and the step of its value, after the others.
-fn put_attribute(
-    names: &mut Vec<Name>,
-    values: &mut Vec<Step>,
-    name: Name,
-    value: Step,
-) -> Result<(), AllocError>
-    ensures names { IfOk result (λ _. names.new.items ≡ names.old.items ++ (name ∷ [])) }
-    ensures values { IfOk result (λ _. values.new.items ≡ values.old.items ++ (value ∷ [])) }
-{
-    values.push(value)?;
-    Ok(names.push(name)?)
-}
-
 /// The step of the tuple of these attributes.
 fn part_step(alloc: Global, part: Vec<FixedValue>) -> Result<Step, AllocError>
     ensures { IfOk result (λ p. step_view p
@@ -204,7 +177,8 @@ fn part_step(alloc: Global, part: Vec<FixedValue>) -> Result<Step, AllocError>
     let mut values = Vec::with_capacity(alloc, part.len())?;
     for attribute in part {
         let FixedValue { name, value } = attribute;
-        put_attribute(&mut names, &mut values, name, value)?;
+        names.push(name)?;
+        values.push(value)?;
     }
     Ok(Step::Select(Selector::Tuple(names), values))
 }
@@ -226,25 +200,6 @@ fn look_up_step(
     Ok(Box::new(alloc, step)?)
 }
 
-/// Whether a condition is known to have a value in each tuple of the heading.
-fn is_total<C: Known>(
-    planner: &Planner<'_, C>,
-    heading: &Heading,
-    condition: &Expr,
-) -> Result<bool, AllocError>
-    requires { IsPlanner C.database planner.now }
-    ensures numbers { IfOk result (λ b. IsTrue b → HasNumbers (tree_view condition.now)) }
-    ensures never { IfOk result (λ b. IsTrue b →
-        IsTrue (cannot_fail (entered_with heading.now planner.now.scope)
-        (tree_view condition.now))) }
-{
-    if !has_numbers(condition) {
-        return Ok(false);
-    }
-    let inner = planner.inner_planner(heading)?;
-    has_a_value(&inner.scope, condition)
-}
-
 /// The names of the first key of a base relvar whose attributes are all fixed, where the condition
 /// is known to have a value in each tuple.
 fn total_key<'p, C: Known>(
@@ -264,11 +219,11 @@ fn total_key<'p, C: Known>(
     let Some(key) = key_of(planner, name, fixed) else {
         return Ok(None);
     };
-    if is_total(planner, heading, condition)? {
-        Ok(Some(key))
-    } else {
-        Ok(None)
+    if !has_numbers(condition) {
+        return Ok(None);
     }
+    let inner = planner.inner_planner(heading)?;
+    Ok(has_a_value(&inner.scope, condition)?.then_some(key))
 }
 
 /// The look-up of the operand of WHERE that the name means, by the first declared key whose

@@ -21,10 +21,7 @@ fn is_in_range(literal: &Literal) -> bool
             minus: false,
             magnitude,
         } => *magnitude < MAX_MAGNITUDE,
-        Literal::Text(_) => true,
-        Literal::Truth(_) => true,
-        Literal::TableDee => true,
-        Literal::TableDum => true,
+        Literal::Text(_) | Literal::Truth(_) | Literal::TableDee | Literal::TableDum => true,
     }
 }
 

@@ -37,28 +37,18 @@ pub(crate) enum Restricted {
     Both,
 }
 
-/// Whether an expression is of truth values.
-fn is_of_truths(scope: &Scope<'_>, expr: &Expr) -> Result<bool, AllocError>
-    ensures { IfOk result (λ b. IsTrue b
-        → type_of scope.now (tree_view expr.now) ≡ Valued types.boolean) }
-{
-    match check_expr(scope, expr) {
-        Ok(Ty::Bool) => Ok(true),
-        Ok(_) => Ok(false),
-        Err(Fault::Refused(_)) => Ok(false),
-        Err(Fault::Memory) => Err(AllocError),
-    }
-}
-
 /// Whether an expression is known to have a truth value.
 fn has_a_truth_value(scope: &Scope<'_>, expr: &Expr) -> Result<bool, AllocError>
     ensures { IfOk result (λ b. IsTrue b → IsTrue (cannot_fail scope.now (tree_view expr.now))
         × (type_of scope.now (tree_view expr.now) ≡ Valued types.boolean)) }
 {
-    if has_a_value(scope, expr)? {
-        is_of_truths(scope, expr)
-    } else {
-        Ok(false)
+    if !has_a_value(scope, expr)? {
+        return Ok(false);
+    }
+    match check_expr(scope, expr) {
+        Ok(Ty::Bool) => Ok(true),
+        Ok(_) | Err(Fault::Refused(_)) => Ok(false),
+        Err(Fault::Memory) => Err(AllocError),
     }
 }
 
@@ -108,10 +98,7 @@ fn restricted_of_union<C: Known>(
     ensures { MayBePushed planner.now.scope result (tree_view left.now) operators.Union
         (tree_view right.now) (tree_view condition.now) }
 {
-    if !is_brief(condition) {
-        return Ok(None);
-    }
-    if !is_answered_of(planner, left, condition)? {
+    if !is_brief(condition) || !is_answered_of(planner, left, condition)? {
         return Ok(None);
     }
     if is_answered_of(planner, right, condition)? {
@@ -185,61 +172,10 @@ fn is_asked_of<C: Known>(
     ensures only { IfOk result (λ b. IsTrue b
         → NamesOnly (attribute_names heading.now) other.now (tree_view condition.now)) }
 {
-    if names_only(planner.alloc, other, heading, condition)? {
-        is_answered(planner, heading, condition)
-    } else {
-        Ok(false)
-    }
-}
-
-/// The operand of a join or a product that has every attribute which a condition names, where the
-/// operands' tuples have these headings.
-fn asked_operand<C: Known>(
-    planner: &Planner<'_, C>,
-    first: &Heading,
-    second: &Heading,
-    condition: &Expr,
-) -> Result<Option<Restricted>, AllocError>
-    requires { IsPlanner C.database planner.now }
-    ensures join { (l r : Tree)
-        → type_of planner.now.scope l ≡ Valued (types.relation (pack first.now))
-        → type_of planner.now.scope r ≡ Valued (types.relation (pack second.now))
-        → MayBePushed planner.now.scope result l operators.Join r (tree_view condition.now) }
-    ensures times { (l r : Tree)
-        → type_of planner.now.scope l ≡ Valued (types.relation (pack first.now))
-        → type_of planner.now.scope r ≡ Valued (types.relation (pack second.now))
-        → MayBePushed planner.now.scope result l operators.Times r (tree_view condition.now) }
-{
-    if is_asked_of(planner, first, second, condition)? {
-        return Ok(Some(Restricted::First));
-    }
-    if is_asked_of(planner, second, first, condition)? {
-        return Ok(Some(Restricted::Second));
-    }
-    Ok(None)
-}
-
-/// As `asked_operand`, where the second operand's heading is still to be found.
-fn asked_operand_before<C: Known>(
-    planner: &Planner<'_, C>,
-    first: &Heading,
-    right: &Expr,
-    condition: &Expr,
-) -> Result<Option<Restricted>, AllocError>
-    requires { IsPlanner C.database planner.now }
-    ensures join { (l : Tree)
-        → type_of planner.now.scope l ≡ Valued (types.relation (pack first.now))
-        → MayBePushed planner.now.scope result l operators.Join (tree_view right.now)
-        (tree_view condition.now) }
-    ensures times { (l : Tree)
-        → type_of planner.now.scope l ≡ Valued (types.relation (pack first.now))
-        → MayBePushed planner.now.scope result l operators.Times (tree_view right.now)
-        (tree_view condition.now) }
-{
-    match planner.heading_of(right)? {
-        Some(second) => asked_operand(planner, first, &second, condition),
-        None => Ok(None),
-    }
+    Ok(
+        names_only(planner.alloc, other, heading, condition)?
+            && is_answered(planner, heading, condition)?,
+    )
 }
 
 /// The operand of a join or a product that has every attribute which a condition names.
@@ -255,10 +191,19 @@ fn restricted_of_join<C: Known>(
     ensures times { MayBePushed planner.now.scope result (tree_view left.now) operators.Times
         (tree_view right.now) (tree_view condition.now) }
 {
-    match planner.heading_of(left)? {
-        Some(first) => asked_operand_before(planner, &first, right, condition),
-        None => Ok(None),
+    let Some(first) = planner.heading_of(left)? else {
+        return Ok(None);
+    };
+    let Some(second) = planner.heading_of(right)? else {
+        return Ok(None);
+    };
+    if is_asked_of(planner, &first, &second, condition)? {
+        return Ok(Some(Restricted::First));
     }
+    if is_asked_of(planner, &second, &first, condition)? {
+        return Ok(Some(Restricted::Second));
+    }
+    Ok(None)
 }
 
 /// The operands of an operator that a condition restricts in place of what the operator gives.

@@ -1,24 +1,19 @@
 //! The steps of WHERE. A condition that cannot fail restricts the operands of WHERE's operand.
-ghost use Rattle.std.specs.Prelude.{◌+◌, ◌≡◌, length, suc};
-ghost use Rattle.td_check.specs.Scopes.{Scope, entered_with};
-ghost use Rattle.td_check.specs.StaticTypes.{type_of};
+ghost use Rattle.std.specs.Prelude.{◌+◌, suc};
 ghost use Rattle.td_plan.specs.Narrowing.{IsNarrowed, MayNarrow};
 ghost use Rattle.td_plan.specs.code.PlannedParts.{IsBoxPlanned, IsPlanned};
 ghost use Rattle.td_plan.specs.code.PlansBelow.{PlansBelow};
 ghost use Rattle.td_plan.specs.Pushing.{restricted_tree};
 ghost use Rattle.td_plan.specs.code.TreeWeights.{expr_weight};
-ghost use Rattle.td_tree.specs.Outcomes.{Valued};
 ghost use Rattle.td_tree.specs.code.TreeViews.{tree_view};
 ghost use Rattle.td_tree.specs.Trees as trees;
-ghost use Rattle.td_tree.specs.Trees.{Tree};
-ghost use Rattle.td_types.specs.Types as types;
-ghost use Rattle.td_types.specs.Types.{Heading, pack};
+ghost use Rattle.td_types.specs.Types.{Heading};
 
 use crate::making::nodes::dyadic_step;
 use crate::making::planner::{Known, Planner};
 use crate::making::planning::Planning;
 use crate::plan::step::{Dyadic, Origin, Step};
-use crate::rewriting::narrowed::{base_named, has_key_attributes, look_up_by_key};
+use crate::rewriting::narrowed::{base_named, look_up_by_key};
 use crate::rewriting::push::{Restricted, restricted_operands};
 use std::alloc::AllocError;
 use td_tree::expression::Expr;
@@ -116,12 +111,9 @@ where
             return self.step_of(expr);
         };
         let slot = self.planner.next_slot();
-        restriction_step(
-            self.narrowed_operand(&heading, expr, condition),
-            slot,
-            self.step_inside(&heading, condition),
-            origin,
-        )
+        let operand = self.narrowed_operand(&heading, expr, condition)?;
+        let condition = self.step_inside(&heading, condition)?;
+        Ok(Step::Restriction(operand, slot, condition, origin))
     }
 
     /// The step of the operand of WHERE, in a box: a look-up by a key that the condition fixes, if
@@ -158,27 +150,7 @@ where
         let Some(name) = base_named(self.planner, operand) else {
             return Ok(None);
         };
-        if !has_key_attributes(self.planner, name) {
-            return Ok(None);
-        }
         let fixed = self.fixed_values(condition, heading);
         look_up_by_key(self.planner, name, heading, condition, fixed)
     }
-}
-
-/// The step of the tuples of an operand, which are in the slot, for which a condition is true.
-#[inline(never)]
-fn restriction_step(
-    operand: Result<Box<Step>, AllocError>,
-    slot: usize,
-    condition: Result<Box<Step>, AllocError>,
-    origin: Origin,
-) -> Result<Step, AllocError>
-    ensures { (scope : Scope) (d e : Tree) (h : Heading) → slot ≡ length scope.entered
-        → IsNarrowed scope operand d e h → type_of scope d ≡ Valued (types.relation (pack h))
-        → IsBoxPlanned (entered_with h scope) condition e
-        → IsPlanned scope result (trees.restriction d e) }
-{
-    let operand = operand?;
-    Ok(Step::Restriction(operand, slot, condition?, origin))
 }

@@ -1,7 +1,7 @@
 //! The slots that steps name, in lists without repetition.
 ghost use Rattle.std.specs.Prelude.{◌≡◌, ◌<◌, ◌^◌, ◌-◌, ◌∷◌, [], IfOk, OnOk, map};
-ghost use Rattle.td_plan.specs.code.Remembered.{AreAllAmong, AreAmong, AreAmongBefore};
-ghost use Rattle.td_plan.specs.code.Remembered.{AreAmongBut, AreBefore};
+ghost use Rattle.td_plan.specs.code.Remembered.{AreAllAmong, AreAmong, AreAmongBefore, AreAmongBut};
+ghost use Rattle.td_plan.specs.code.Remembered.{AreBefore};
 
 use std::alloc::{AllocError, Global};
 

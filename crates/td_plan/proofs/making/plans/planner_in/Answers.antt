@@ -13,8 +13,8 @@ loop-tuple-preserved g c =
     let ts = c.args.env.now.tuples.now in
     let within : c.loop-tuple.tuple-index < length ts = search rules in
     let first = c.in_ok-heading.ensures in (
-      c.in_ok-planner.ensures.planner,
-      c.in_ok-planner.ensures.scope
+      c.in_ok-enter.ensures.planner,
+      c.in_ok-enter.ensures.scope
           ∙ (λ i. entered_with (first i) (c.loop-tuple.invariant.1 i))
           ∙ ap (with_tuples scope) (sym (one_more_of (λ (t : Bor Tuple). t.now) ts c.loop-tuple.tuple-index c.tuple-item.result within c.tuple-item.is)),
     )

@@ -148,133 +148,164 @@ all_inside_both-returns t c =
     c.joined.ensures.first c.joined.ensures.second
 
 pub named_step-returns-in-Constant : goal.named_step-returns-in-Constant
-named_step-returns-in-Constant t c = leaf_remembered c.args.places.now c.new-none.result.items c.args.step _ (ap step_view (sym c.in-Constant.is))
-    (λ w s t agree. rw (ap step_view c.in-Constant.is) refl) (λ ps. tt)
+named_step-returns-in-Constant t c = c.named.ensures _ _ c.args.step (leaf_remembered c.args.places.now c.new.result.items c.args.step _ (ap step_view
+    (sym c.in-Constant.is))
+    (λ w s t agree. rw (ap step_view c.in-Constant.is) refl) (λ ps. tt))
 
 pub named_step-returns-in-Refused : goal.named_step-returns-in-Refused
-named_step-returns-in-Refused t c = leaf_remembered c.args.places.now c.new-none.result.items c.args.step _ (ap step_view (sym c.in-Refused.is))
-    (λ w s t agree. rw (ap step_view c.in-Refused.is) refl) (λ ps. tt)
+named_step-returns-in-Refused t c = c.named-in-Refused.ensures _ _ c.args.step
+    (leaf_remembered c.args.places.now c.new-in-Refused.result.items c.args.step _ (ap step_view (sym c.in-Refused.is))
+    (λ w s t agree. rw (ap step_view c.in-Refused.is) refl) (λ ps. tt))
 
 pub named_step-returns-in-Relvar : goal.named_step-returns-in-Relvar
-named_step-returns-in-Relvar t c = leaf_remembered c.args.places.now c.new-none.result.items c.args.step _ (ap step_view (sym c.in-Relvar.is))
-    (λ w s t agree. rw (ap step_view c.in-Relvar.is) refl) (λ ps. tt)
+named_step-returns-in-Relvar t c = c.named-in-Relvar.ensures _ _ c.args.step (leaf_remembered c.args.places.now c.new-in-Relvar.result.items c.args.step _
+    (ap step_view (sym c.in-Relvar.is))
+    (λ w s t agree. rw (ap step_view c.in-Relvar.is) refl) (λ ps. tt))
 
-pub named_step-returns-in_ok-names-in-Attribute : goal.named_step-returns-in_ok-names-in-Attribute
-named_step-returns-in_ok-names-in-Attribute t c =
+pub named_step-returns-in-Attribute : goal.named_step-returns-in-Attribute
+named_step-returns-in-Attribute t c =
     let k = c.in-Attribute.slot in
-    let place = c.in-Attribute.place in
-    leaf_remembered c.args.places.now c.in_ok-names-in-Attribute.names.items c.args.step _ (ap step_view (sym c.in-Attribute.is))
-    (subst (λ ns. IsOn ns (step_view c.args.step)) (sym c.in_ok-names-in-Attribute.ensures) (subst (IsOn (k ∷ [])) (ap step_view (sym c.in-Attribute.is)) (attribute_on k place))) (λ ps. tt)
+    let view = ap step_view (sym c.in-Attribute.is) in
+    c.named-in-Attribute.ensures _ _ c.args.step (IfOk-weaker c.one.result _ _ (λ result h.
+    leaf_remembered c.args.places.now result.items c.args.step _ view
+    (subst (λ ns. IsOn ns (step_view c.args.step)) (sym h) (subst (IsOn (k ∷ [])) view (attribute_on k c.in-Attribute.place))) (λ ps. tt)) c.one.ensures)
 
-pub nodes::look_up-returns : goal.nodes::look_up-returns
-nodes::look_up-returns t c =
-    let names = c.in_ok-names.names.items in
-    let key = c.args.key.items in
-    one_remembered (plans.look_up c.args.relvar key) _ _ names (look_up_on names c.args.relvar key) _ _ _ _ c.in_ok-names.ensures
-    (λ i. plans.look_up c.args.relvar key (step_view (sym c.deref_mut.ensures.value i))) refl (λ ps s. s)
+pub named_step-returns-in-LookUp : goal.named_step-returns-in-LookUp
+named_step-returns-in-LookUp t c =
+    let key = c.in-LookUp.key.items in
+    c.named-in-LookUp.ensures _ _ c.args.step (IfOk-weaker c.remember-names.result _ _ (λ result h.
+    let names = result.items in
+    one_remembered (plans.look_up c.in-LookUp.relvar key) _ _ names (look_up_on names c.in-LookUp.relvar key) _ _ _ _ h
+    (ap step_view c.in-LookUp.is ∙ (λ i. plans.look_up c.in-LookUp.relvar key (step_view (sym c.deref_mut.ensures.value i)))) refl
+    (λ ps s. s)) c.remember-names.ensures)
 
-pub nodes::monadic-returns : goal.nodes::monadic-returns
-nodes::monadic-returns t c =
-    let names = c.in_ok-names.names.items in
-    let op = monadic_view c.args.op in
-    one_remembered (plans.monadic op) _ _ names (monadic_on names op) _ _ _ _ c.in_ok-names.ensures
-    (λ i. plans.monadic op (step_view (sym c.deref_mut.ensures.value i))) refl (λ ps s. s)
+pub named_step-returns-in-Monadic : goal.named_step-returns-in-Monadic
+named_step-returns-in-Monadic t c =
+    let op = monadic_view c.in-Monadic.op in
+    c.named-in-Monadic.ensures _ _ c.args.step (IfOk-weaker c.remember-names-in-Monadic.result _ _ (λ result h.
+    let names = result.items in
+    one_remembered (plans.monadic op) _ _ names (monadic_on names op) _ _ _ _ h
+    (ap step_view c.in-Monadic.is ∙ (λ i. plans.monadic op (step_view (sym c.deref_mut-in-Monadic.ensures.value i)))) refl
+    (λ ps s. s)) c.remember-names-in-Monadic.ensures)
 
-pub nodes::dyadic-returns : goal.nodes::dyadic-returns
-nodes::dyadic-returns t c =
-    let names = c.in_ok-names.names.items in
-    let op = dyadic_view c.args.op in
+pub named_step-returns-in-Dyadic : goal.named_step-returns-in-Dyadic
+named_step-returns-in-Dyadic t c =
+    let op = dyadic_view c.in-Dyadic.op in
+    c.named-in-Dyadic.ensures _ _ c.args.step (IfOk-weaker c.both-names.result _ _ (λ result h.
+    let names = result.items in
     two_remembered (λ p q. plans.dyadic p op q) (λ x y. AreAmong x names × AreAmong y names) _ _ names
-    (λ x y p q among f g. dyadic_on names p op q (on_more x names p among.0 f) (on_more y names q among.1 g)) _ _ _ _ _ _ c.in_ok-names.ensures
-    (λ i. plans.dyadic (step_view (sym c.deref_mut.ensures.value i)) op (step_view (sym c.deref_mut-2.ensures.value i))) refl (λ ps s. s)
+    (λ x y p q among f g. dyadic_on names p op q (on_more x names p among.0 f) (on_more y names q among.1 g)) _ _ _ _ _ _ h
+    (ap step_view c.in-Dyadic.is ∙ (λ i. plans.dyadic (step_view (sym c.deref_mut-in-Dyadic.ensures.value i)) op (step_view
+    (sym c.deref_mut-in-Dyadic-2.ensures.value i)))) refl (λ ps s. s)) c.both-names.ensures)
 
-pub nodes::choice-returns : goal.nodes::choice-returns
-nodes::choice-returns t c =
-    let names = c.in_ok-names.names.items in
-    three_made plans.choice _ _ names (choice_on names) _ _ _ _ _ _ _ _ c.in_ok-names.ensures
-    (λ i. plans.choice (step_view (sym c.deref_mut.ensures.value i)) (step_view (sym c.deref_mut-2.ensures.value i)) (step_view (sym c.deref_mut-3.ensures.value i))) refl (λ ps s. s)
+pub named_step-returns-in-If : goal.named_step-returns-in-If
+named_step-returns-in-If t c =
+    c.named-in-If.ensures _ _ c.args.step (IfOk-weaker c.three-names.result _ _ (λ result h.
+    let names = result.items in
+    three_made plans.choice _ _ names (choice_on names) _ _ _ _ _ _ _ _ h
+    (ap step_view c.in-If.is ∙ (λ i. plans.choice (step_view (sym c.deref_mut-in-If.ensures.value i)) (step_view
+    (sym c.deref_mut-in-If-2.ensures.value i)) (step_view (sym c.deref_mut-in-If-3.ensures.value i)))) refl (λ ps s. s)) c.three-names.ensures)
 
-pub nodes::select-returns : goal.nodes::select-returns
-nodes::select-returns t c =
-    let names = c.in_ok-names.names.items in
-    let selector = c.args.selector in
-    all_made (plans.select (selector_view selector)) _ _ names (select_on names (selector_view selector)) _ _ _ _ c.in_ok-names.ensures
-    (select_is selector c.args.parts) (select_is selector c.all.new.steps) (λ ps s. parts_sound ps c.all.new.steps s)
+pub named_step-returns-in-Select : goal.named_step-returns-in-Select
+named_step-returns-in-Select t c =
+    let selector = c.in-Select.selector in
+    c.named-in-Select.ensures _ _ c.args.step (IfOk-weaker c.all-names.result _ _ (λ result h.
+    let names = result.items in
+    all_made (plans.select (selector_view selector)) _ _ names (select_on names (selector_view selector)) _ _ _ _ h
+    (ap step_view c.in-Select.is ∙ select_is selector c.in-Select.parts) (select_is selector c.all-names.new.steps)
+    (λ ps s. parts_sound ps c.all-names.new.steps s)) c.all-names.ensures)
 
-pub nodes::restriction-returns : goal.nodes::restriction-returns
-nodes::restriction-returns t c =
-    let names = c.in_ok-names.names.items in
-    let slot = c.args.slot in
+pub named_step-returns-in-Restriction : goal.named_step-returns-in-Restriction
+named_step-returns-in-Restriction t c =
+    let slot = c.in-Restriction.slot in
+    c.named-in-Restriction.ensures _ _ c.args.step (IfOk-weaker c.inside-names.result _ _ (λ result h.
+    let names = result.items in
     two_remembered (λ p q. plans.restriction p slot q) (λ x y. AreAmong x names × AreAmongBut slot y names) _ _ names
-    (λ x y p q among f g. restriction_on names y slot among.1 p q (on_more x names p among.0 f) g) _ _ _ _ _ _ c.in_ok-names.ensures
-    (λ i. plans.restriction (step_view (sym c.deref_mut.ensures.value i)) slot (step_view (sym c.deref_mut-2.ensures.value i))) refl (λ ps s. s)
+    (λ x y p q among f g. restriction_on names y slot among.1 p q (on_more x names p among.0 f) g) _ _ _ _ _ _ h
+    (ap step_view c.in-Restriction.is ∙ (λ i. plans.restriction (step_view (sym c.deref_mut-in-Restriction.ensures.value i)) slot (step_view
+    (sym c.deref_mut-in-Restriction-2.ensures.value i)))) refl (λ ps s. s)) c.inside-names.ensures)
 
-pub nodes::aggregate-returns : goal.nodes::aggregate-returns
-nodes::aggregate-returns t c =
-    let names = c.in_ok-names.names.items in
-    let slot = c.args.slot in
-    let op = c.args.op in
+pub named_step-returns-in-Aggregate : goal.named_step-returns-in-Aggregate
+named_step-returns-in-Aggregate t c =
+    let slot = c.in-Aggregate.slot in
+    let op = c.in-Aggregate.op in
+    c.named-in-Aggregate.ensures _ _ c.args.step (IfOk-weaker c.inside-names-in-Aggregate.result _ _ (λ result h.
+    let names = result.items in
     two_remembered (λ p q. plans.aggregate op p slot q) (λ x y. AreAmong x names × AreAmongBut slot y names) _ _ names
-    (λ x y p q among f g. aggregate_on names y slot among.1 op p q (on_more x names p among.0 f) g) _ _ _ _ _ _ c.in_ok-names.ensures
-    (λ i. plans.aggregate op (step_view (sym c.deref_mut.ensures.value i)) slot (step_view (sym c.deref_mut-2.ensures.value i))) refl (λ ps s. s)
+    (λ x y p q among f g. aggregate_on names y slot among.1 op p q (on_more x names p among.0 f) g) _ _ _ _ _ _ h
+    (ap step_view c.in-Aggregate.is ∙ (λ i. plans.aggregate op (step_view (sym c.deref_mut-in-Aggregate.ensures.value i)) slot (step_view
+    (sym c.deref_mut-in-Aggregate-2.ensures.value i)))) refl (λ ps s. s)) c.inside-names-in-Aggregate.ensures)
 
-pub nodes::extend-returns : goal.nodes::extend-returns
-nodes::extend-returns t c =
-    let names = c.in_ok-names.names.items in
-    let slot = c.args.slot in
-    let attributes = pairs_view c.args.attributes.items in
-    inside_made (λ p qs. plans.extend p attributes slot qs) _ _ slot names (λ inner p qs among f g. extend_on names inner slot among p attributes qs f g) _ _ _ _ _ _ c.in_ok-names.ensures
-    (λ i. plans.extend (step_view (sym c.deref_mut.ensures.value i)) attributes slot (steps_are c.args.values i)) (ap (plans.extend (step_view c.all_inside.new.operand) attributes slot) (steps_are c.all_inside.new.steps))
-    (λ ps s. (s.0, parts_sound ps c.all_inside.new.steps s.1))
+pub named_step-returns-in-Extend : goal.named_step-returns-in-Extend
+named_step-returns-in-Extend t c =
+    let slot = c.in-Extend.slot in
+    let attributes = pairs_view c.in-Extend.columns.items in
+    c.named-in-Extend.ensures _ _ c.args.step (IfOk-weaker c.all_inside-names.result _ _ (λ result h.
+    let names = result.items in
+    inside_made (λ p qs. plans.extend p attributes slot qs) _ _ slot names
+    (λ inner p qs among f g. extend_on names inner slot among p attributes qs f g) _ _ _ _ _ _ h
+    (ap step_view c.in-Extend.is ∙ (λ i. plans.extend (step_view (sym c.deref_mut-in-Extend.ensures.value i)) attributes slot
+    (steps_are c.in-Extend.values i))) (ap (plans.extend (step_view c.all_inside-names.new.operand) attributes slot) (steps_are c.all_inside-names.new.steps))
+    (λ ps s. (s.0, parts_sound ps c.all_inside-names.new.steps s.1))) c.all_inside-names.ensures)
 
-pub nodes::summarize_by-returns : goal.nodes::summarize_by-returns
-nodes::summarize_by-returns t c =
-    let names = c.in_ok-names.names.items in
-    let slot = c.args.slot in
-    let by = attributes_view c.args.by in
-    let attributes = pairs_view c.args.attributes.items in
-    let aggregates = c.args.aggregates.items in
+pub named_step-returns-in-SummarizeBy : goal.named_step-returns-in-SummarizeBy
+named_step-returns-in-SummarizeBy t c =
+    let slot = c.in-SummarizeBy.slot in
+    let by = attributes_view c.in-SummarizeBy.by in
+    let attributes = pairs_view c.in-SummarizeBy.columns.items in
+    let aggregates = c.in-SummarizeBy.aggregates.items in
+    c.named-in-SummarizeBy.ensures _ _ c.args.step (IfOk-weaker c.all_inside-names-in-SummarizeBy.result _ _ (λ result h.
+    let names = result.items in
     inside_made (λ p qs. plans.summarize_by p by attributes aggregates slot qs) _ _ slot names
-    (λ inner p qs among f g. summarize_by_on names inner slot among p by attributes aggregates qs f g) _ _ _ _ _ _ c.in_ok-names.ensures
-    (λ i. plans.summarize_by (step_view (sym c.deref_mut.ensures.value i)) by attributes aggregates slot (steps_are c.args.values i))
-    (ap (plans.summarize_by (step_view c.all_inside.new.operand) by attributes aggregates slot) (steps_are c.all_inside.new.steps))
-    (λ ps s. (s.0, parts_sound ps c.all_inside.new.steps s.1))
+    (λ inner p qs among f g. summarize_by_on names inner slot among p by attributes aggregates qs f g) _ _ _ _ _ _ h
+    (ap step_view c.in-SummarizeBy.is ∙ (λ i. plans.summarize_by (step_view
+    (sym c.deref_mut-in-SummarizeBy.ensures.value i)) by attributes aggregates slot (steps_are c.in-SummarizeBy.values i)))
+    (ap (plans.summarize_by (step_view c.all_inside-names-in-SummarizeBy.new.operand) by attributes aggregates slot)
+    (steps_are c.all_inside-names-in-SummarizeBy.new.steps))
+    (λ ps s. (s.0, parts_sound ps c.all_inside-names-in-SummarizeBy.new.steps s.1))) c.all_inside-names-in-SummarizeBy.ensures)
 
-pub nodes::summarize_per-returns : goal.nodes::summarize_per-returns
-nodes::summarize_per-returns t c =
-    let names = c.in_ok-names.names.items in
-    let slot = c.args.slot in
-    let attributes = pairs_view c.args.attributes.items in
-    let aggregates = c.args.aggregates.items in
+pub named_step-returns-in-SummarizePer : goal.named_step-returns-in-SummarizePer
+named_step-returns-in-SummarizePer t c =
+    let slot = c.in-SummarizePer.slot in
+    let attributes = pairs_view c.in-SummarizePer.columns.items in
+    let aggregates = c.in-SummarizePer.aggregates.items in
+    c.named-in-SummarizePer.ensures _ _ c.args.step (IfOk-weaker c.all_inside_both-names.result _ _ (λ result h.
+    let names = result.items in
     inside_both_made (λ p q qs. plans.summarize_per p q attributes aggregates slot qs) _ _ slot names
-    (λ inner p q qs among f g h. summarize_per_on names inner slot among p q attributes aggregates qs f g h) _ _ _ _ _ _ _ _ c.in_ok-names.ensures
-    (λ i. plans.summarize_per (step_view (sym c.deref_mut.ensures.value i)) (step_view (sym c.deref_mut-2.ensures.value i)) attributes aggregates slot (steps_are c.args.values i))
-    (ap (plans.summarize_per (step_view c.all_inside_both.new.operand) (step_view c.all_inside_both.new.per) attributes aggregates slot) (steps_are c.all_inside_both.new.steps))
-    (λ ps s. (s.0, s.1, parts_sound ps c.all_inside_both.new.steps s.2))
+    (λ inner p q qs among f g h. summarize_per_on names inner slot among p q attributes aggregates qs f g h) _ _ _ _ _ _ _ _ h
+    (ap step_view c.in-SummarizePer.is ∙ (λ i. plans.summarize_per (step_view (sym c.deref_mut-in-SummarizePer.ensures.value i)) (step_view
+    (sym c.deref_mut-in-SummarizePer-2.ensures.value i)) attributes aggregates slot (steps_are c.in-SummarizePer.values i)))
+    (ap (plans.summarize_per (step_view c.all_inside_both-names.new.operand) (step_view c.all_inside_both-names.new.per) attributes aggregates slot)
+    (steps_are c.all_inside_both-names.new.steps))
+    (λ ps s. (s.0, s.1, parts_sound ps c.all_inside_both-names.new.steps s.2))) c.all_inside_both-names.ensures)
 
-pub named_step-select-requires : goal.named_step-select-requires
-named_step-select-requires t c =
+pub named_step-all-names-requires : goal.named_step-all-names-requires
+named_step-all-names-requires t c =
     let is = ap step_height c.in-Select.is in
     let parts = parts_deep c.in-Select.parts in
     (omega (arith, c.decreases, is, parts), tt)
 
-pub named_step-extend-requires : goal.named_step-extend-requires
-named_step-extend-requires t c =
+pub named_step-all_inside-names-requires : goal.named_step-all_inside-names-requires
+named_step-all_inside-names-requires t c =
     let is = ap step_height c.in-Extend.is in
     let parts = parts_deep c.in-Extend.values in
-    (omega (arith, c.decreases, is, parts), tt)
+    let operand = ap step_height c.deref_mut-in-Extend.ensures.value in
+    (omega (arith, c.decreases, is, parts, operand), tt)
 
-pub named_step-summarize_by-requires : goal.named_step-summarize_by-requires
-named_step-summarize_by-requires t c =
+pub named_step-all_inside-names-requires-in-SummarizeBy : goal.named_step-all_inside-names-requires-in-SummarizeBy
+named_step-all_inside-names-requires-in-SummarizeBy t c =
     let is = ap step_height c.in-SummarizeBy.is in
     let parts = parts_deep c.in-SummarizeBy.values in
-    (omega (arith, c.decreases, is, parts), tt)
+    let operand = ap step_height c.deref_mut-in-SummarizeBy.ensures.value in
+    (omega (arith, c.decreases, is, parts, operand), tt)
 
-pub named_step-summarize_per-requires : goal.named_step-summarize_per-requires
-named_step-summarize_per-requires t c =
+pub named_step-all_inside_both-names-requires : goal.named_step-all_inside_both-names-requires
+named_step-all_inside_both-names-requires t c =
     let is = ap step_height c.in-SummarizePer.is in
     let parts = parts_deep c.in-SummarizePer.values in
-    (omega (arith, c.decreases, is, parts), tt)
+    let operand = ap step_height c.deref_mut-in-SummarizePer.ensures.value in
+    let per = ap step_height c.deref_mut-in-SummarizePer-2.ensures.value in
+    (omega (arith, c.decreases, is, parts, operand, per), tt)
 
 pub all_bound-keep_all-requires : goal.all_bound-keep_all-requires
 all_bound-keep_all-requires t c =
@@ -294,8 +325,8 @@ all_bound-returns t c =
     (subst (λ (nss : List (Vec ℕ)). AreEachKept c.keep_part.new.places c.keep_all.new.places (map items nss) c.remember_all.new.steps.items c.keep_all.new.steps.items) c.deref-5.ensures.value
     c.in_ok-keep_all.ensures)
 
-pub nodes::bound-returns : goal.nodes::bound-returns
-nodes::bound-returns t c =
+pub bound-returns : goal.bound-returns
+bound-returns t c =
     let names = c.in_ok-bound.bound.names.items in
     let slot = c.args.slot in
     let reach = c.in_ok-bound.bound.reach in

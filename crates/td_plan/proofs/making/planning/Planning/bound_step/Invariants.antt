@@ -1,4 +1,3 @@
-use Rattle.std.proofs.Common.{◌≡◌}
 use Rattle.td_plan.proofs.PlannedBound.{ArePlannedTo, AreTypedTo}
 use Rattle.td_plan.specs.code.Planners.{IsPlanner}
 use Rattle.td_plan.proofs.making.planning.Planning.bound_step.Given as goal

@@ -1,4 +1,4 @@
-use Rattle.std.proofs.Common.{◌≡◌, subst}
+use Rattle.std.proofs.Common.{◌≡◌, subst, sym}
 use Rattle.std.specs.Prelude.{IfNone, IfSome}
 use Rattle.td_check.specs.OperatorTypes.{extension_type, setting_type}
 use Rattle.td_check.specs.Scopes.{entered_with}
@@ -9,17 +9,32 @@ use Rattle.td_tree.specs.Outcomes.{Valued, with_value}
 use Rattle.td_tree.specs.code.TreeViews.{named_view, tree_view}
 use Rattle.td_tree.specs.Trees as trees
 use Rattle.td_types.specs.Types.{Heading, pack, relation}
+use Rattle.td_plan.proofs.PlannedTuples.{extension_planned, setting_planned}
+use Rattle.td_plan.proofs.StepRows.{extend_is}
+use Rattle.td_plan.specs.PlansOf.{IsPlanOfTyped}
+use Rattle.td_plan.specs.code.StepViews.{step_view, steps_view}
+use Rattle.td_types.specs.code.Views.{pairs_view}
 use Rattle.td_plan.proofs.making.planning.Planning.extend_step.Goals as goal
 
 pub returns : goal.returns
 returns g c =
     let scope = c.args.self.now.planner.now.scope in
-    let inner = entered_with c.in-Some.heading scope in
+    let h = c.in-Some.heading in
+    let inner = entered_with h scope in
     let d = tree_view c.args.operand.now in
     let es = named_view c.args.parts.now in
-    c.extension_step.ensures scope d es c.in-Some.heading c.next_slot-slot.ensures c.boxed_step.ensures
-    (subst (λ o. IfSome o (λ h. type_of scope d ≡ Valued (relation (pack h)))) c.in-Some.is c.in_ok-heading.ensures.some)
-    (subst (λ o. AreFoundColumns inner o (named_types inner es) (in_named es)) c.in-Some-2.is c.in_ok-columns.ensures)
+    let static = subst (λ o. IfSome o (λ h. type_of scope d ≡ Valued (relation (pack h)))) c.in-Some.is c.in_ok-heading.ensures.some in
+    let columns = subst (λ o. AreFoundColumns inner o (named_types inner es) (in_named es)) c.in-Some-2.is c.in_ok-columns.ensures in
+    let p = c.in_ok-boxed_step.field-0 in
+    let slot = c.next_slot-slot.result in
+    let xs = pairs_view c.in-Some-2.columns.attributes.items in
+    let values = steps_view c.in-Some-2.columns.values.items in
+    let is = sym (extend_is p c.in-Some-2.columns.attributes slot c.in-Some-2.columns.values) in (
+      subst (λ x. IsPlanOfTyped scope x (trees.extend d es)) is
+          (extension_planned scope (step_view p.value) xs slot values d es h c.next_slot-slot.ensures c.in_ok-boxed_step.ensures static columns.0 columns.1),
+      subst (λ x. IsPlanOfTyped scope x (trees.extend_setting d es)) is
+          (setting_planned scope (step_view p.value) xs slot values d es h c.next_slot-slot.ensures c.in_ok-boxed_step.ensures static columns.0 columns.1),
+    )
 
 pub returns-in_default : goal.returns-in_default
 returns-in_default g c =

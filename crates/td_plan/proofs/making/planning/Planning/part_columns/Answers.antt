@@ -1,26 +1,30 @@
-use Rattle.std.proofs.Common.{◌≡◌, List, subst, sym}
-use Rattle.std.specs.Prelude.{IfNone, IfOk, IfSome}
+use Rattle.std.proofs.Common.{◌≡◌, Err, List, subst, sym}
+use Rattle.std.specs.Global.{Vec}
 use Rattle.td_check.specs.StaticTypes.{named_types}
+use Rattle.td_plan.proofs.PlannedAnswers.{no_value}
 use Rattle.td_plan.proofs.PlannedLists.{parts_are}
-use Rattle.td_plan.specs.code.PlannedParts.{ArePlanned, ArePlannedColumns, in_named}
-use Rattle.td_tree.specs.Outcomes.{Valued}
+use Rattle.td_plan.specs.code.PlannedParts.{ArePlansOfTyped, in_named}
+use Rattle.td_plan.specs.code.StepViews.{steps_view}
+use Rattle.td_tree.specs.Outcomes.{Answers, Valued}
 use Rattle.td_tree.specs.code.TreeViews.{named_view}
 use Rattle.td_types.specs.Types.{Attribute}
 use Rattle.td_types.specs.code.Views.{pairs_view}
 use Rattle.td_plan.proofs.making.planning.Planning.part_columns.Goals as goal
 
-pub returns : goal.returns
-returns g c =
-    let scope = c.args.self.now.planner.now.scope in
+pub returns-in-Ok : goal.returns-in-Ok
+returns-in-Ok g c =
     let es = named_view c.args.parts.now in
-    let types = named_types scope es in
-    subst (λ o. IfOk o (λ columns. ArePlannedColumns scope columns types (in_named es))) c.in_ok-columns.was
-    (c.new_columns.ensures scope types (in_named es)
-    (subst (λ o. IfSome o (λ xs. types ≡ Valued (pairs_view xs.items))) c.in-Some.is c.in_ok-attributes.ensures.some)
-    (subst (ArePlanned scope c.part_steps.result) (sym (parts_are c.args.parts.now)) c.part_steps.ensures))
+    let there = c.in_ok-planner.planner.scope in
+    let attributes = pairs_view c.in-Ok.attributes.items in
+    let values = steps_view c.in_ok-values-in-Ok.values.items in
+    let planned = subst (ArePlansOfTyped there values) (sym (parts_are c.args.parts.now)) c.in_ok-values-in-Ok.ensures in
+    subst (λ s. (named_types s es ≡ Valued attributes) × ArePlansOfTyped s values (in_named es)) c.in_ok-planner.ensures.scope (c.in-Ok.ensures, planned)
 
-pub returns-in_default : goal.returns-in_default
-returns-in_default g c =
-    let scope = c.args.self.now.planner.now.scope in
-    let types = named_types scope (named_view c.args.parts.now) in
-    subst (λ o. IfNone o ((xs : List Attribute) → types ≡ Valued xs → ⊥)) c.in_default.is c.in_ok-attributes.ensures.none
+pub returns-in-Err-Refused : goal.returns-in-Err-Refused
+returns-in-Err-Refused g c =
+    let es = named_view c.args.parts.now in
+    let types = named_types c.in_ok-planner.planner.scope es in
+    let view = λ (xs : Vec _). pairs_view xs.items in
+    let refused =
+    subst (λ f. Answers view (Err f) types) c.in-Err-Refused.field-0-is (subst (λ r. Answers view r types) c.in-Err-Refused.is c.check_parts.ensures) in
+    subst (λ s. (xs : List Attribute) → named_types s es ≡ Valued xs → ⊥) c.in_ok-planner.ensures.scope (no_value types _ refused)

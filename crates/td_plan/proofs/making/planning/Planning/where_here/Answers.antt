@@ -9,6 +9,8 @@ use Rattle.td_tree.specs.Outcomes.{Valued, with_value}
 use Rattle.td_tree.specs.code.TreeViews.{tree_view}
 use Rattle.td_types.specs.Types.{Heading, pack}
 use Rattle.td_types.specs.Types as types
+use Rattle.td_plan.proofs.PlannedTuples.{restriction_planned}
+use Rattle.td_plan.specs.code.StepViews.{step_view}
 use Rattle.td_plan.proofs.making.planning.Planning.where_here.Goals as goal
 
 pub returns : goal.returns
@@ -16,9 +18,9 @@ returns g c =
     let scope = c.args.self.now.planner.now.scope in
     let d = tree_view c.args.expr.now in
     let static = subst (λ o. IfSome o (λ h. type_of scope d ≡ Valued (types.relation (pack h)))) c.in-Some.is c.in_ok-heading.ensures.some in
-    c.restriction_step.ensures scope d (tree_view c.args.condition.now) c.in-Some.heading c.next_slot-slot.ensures c.narrowed_operand.ensures static c.step_inside.ensures
+    restriction_planned scope (step_view c.in_ok-operand.operand.value) c.next_slot-slot.result (step_view c.in_ok-condition.condition.value)
+    d (tree_view c.args.condition.now) c.in-Some.heading c.next_slot-slot.ensures (c.in_ok-operand.ensures static) static c.in_ok-condition.ensures
 
--- what is no relation has no restriction
 pub returns-in_default : goal.returns-in_default
 returns-in_default g c =
     let scope = c.args.self.now.planner.now.scope in
