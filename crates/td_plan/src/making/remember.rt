@@ -1,6 +1,6 @@
 //! Parts of a step whose answers are kept, found once it is made: those that do not name the
 //! innermost tuple which what they are parts of names.
-ghost use Rattle.std.specs.Prelude.{◌≡◌, ◌<◌, ◌-◌, IfOk, List, OnOk, length, map, ℕ};
+ghost use Rattle.std.specs.Prelude.{◌≡◌, ◌<◌, ◌-◌, IfOk, IfSome, List, OnOk, length, map, ℕ};
 ghost use Rattle.td_plan.specs.code.Remembered.{AreAmong, AreAmongBut, AreBefore, AreEachKept};
 ghost use Rattle.td_plan.specs.code.Remembered.{AreEachRemembered, AreRemembered, AreAllRemembered};
 ghost use Rattle.td_plan.specs.code.Remembered.{AreBoundNames, AreRememberedBound};
@@ -88,6 +88,19 @@ struct NamedStep {
     names: Vec<usize>,
 }
 
+/// The slots that a step without parts names: nothing where it may have parts.
+fn leaf_names(alloc: Global, step: &Step) -> Option<Result<Vec<usize>, AllocError>>
+    ensures { IfSome result (λ found. IfOk found (λ names. (places : ℕ)
+        → IsRemembered places places names.items step.now step.now)) }
+{
+    match step {
+        Step::Constant(_) => Some(Ok(Vec::new(alloc))),
+        Step::Relvar(_) => Some(Ok(Vec::new(alloc))),
+        Step::Attribute { slot, .. } => Some(one(alloc, *slot)),
+        _ => None,
+    }
+}
+
 /// Keeps the answers of the step's parts. It gives the slots that the step names.
 #[cycle(remember)]
 pub(crate) fn remember(
@@ -98,6 +111,9 @@ pub(crate) fn remember(
     ensures { IfOk result (λ names.
         IsRemembered places.old places.new names.items step.old step.new) }
 {
+    if let Some(names) = leaf_names(alloc, step) {
+        return names;
+    }
     let old = mem::replace(step, Step::Refused(Cause::NameUnknown));
     let named = named_step(alloc, places, old)?;
     *step = named.step;

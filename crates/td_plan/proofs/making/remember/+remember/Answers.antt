@@ -346,3 +346,6 @@ pub named_step-returns-in-Bound : goal.named_step-returns-in-Bound
 named_step-returns-in-Bound t c =
     IfOk-weaker c.bound.result _ _ (λ named h.
     subst (λ s. IsRemembered c.args.places.now c.bound.new.places named.names.items s named.step) (sym c.in-Bound.is) (h c.in-Bound.reach)) c.bound.ensures
+
+pub remember-returns-in-Some : goal.remember-returns-in-Some
+remember-returns-in-Some t c = IfOk-weaker c.in-Some.names _ _ (λ names h. h c.args.places.now) c.in-Some.ensures
