@@ -15,11 +15,12 @@ use td_engine::source::{IoSource, Source};
 /// What a command line says: a mode, whether the first refusal ends the run, and the script.
 type Said = Option<(Mode, bool, Option<&'static str>)>;
 
-const LINES: &[([&str; 3], Said)] = &[
-    (["td", "run", "a"], Some((Mode::Run, false, Some("a")))),
-    (["td", "dump", "-"], Some((Mode::Dump, false, Some("-")))),
-    (["td", "run", "--stop"], Some((Mode::Run, true, None))),
-    (["td", "walk", "a"], None),
+const LINES: &[(&[&str], Said)] = &[
+    (&["td", "run", "a"], Some((Mode::Run, false, Some("a")))),
+    (&["td", "dump", "-"], Some((Mode::Dump, false, Some("-")))),
+    (&["td", "run", "--stop"], Some((Mode::Run, true, None))),
+    (&["td", "run", "--stop", "a"], Some((Mode::Run, true, Some("a")))),
+    (&["td", "walk", "a"], None),
 ];
 
 /// Whether the words of a command line say that.
