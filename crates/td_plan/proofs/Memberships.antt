@@ -1,17 +1,21 @@
--- Members of a relation, found by hashes.
+-- Members of a relation, found by hashes, and numbers in their order.
 use Rattle.std.proofs.Common.{◌≡◌, ◌∙◌, ◌+◌, ◌<◌, ◌≤◌, ◌++◌, ℕ, ℤ, suc, Bool, true, false, cond, List, [], ◌∷◌, ap, arith}
 use Rattle.std.proofs.Common.{get_or, length, map, refl, subst, sym, take}
-use Rattle.std.proofs.lemmas.Bool.Decides.{Decides-eqb}
-use Rattle.std.proofs.lemmas.Cmp.{nat_list_cmp_total, tied_itself}
+use Rattle.std.proofs.lemmas.Bool.{cases_lt}
+use Rattle.std.proofs.lemmas.Bool.Decides.{Decides-eqb, Decides-int_eq}
+use Rattle.std.proofs.lemmas.Cmp.{int_cmp_total, int_eq_equiv, nat_list_cmp_total, tied_itself}
 use Rattle.std.proofs.lemmas.List.{take_more}
-use Rattle.std.proofs.lemmas.List.Folds.{list_any-append}
+use Rattle.std.proofs.lemmas.List.Folds.{list_any-append, list_any_at, list_any_none}
+use Rattle.std.proofs.lemmas.List.Sorted.{searchable_from_sorted}
 use Rattle.std.proofs.lemmas.Slice.Eq.{slice_eq-Decides}
 use Rattle.std.specs.HashSet.{HashSet, contains}
-use Rattle.std.specs.List.{All, list_any, slice_get, zip}
-use Rattle.std.specs.Ordering.{int_cmp, is_eq, ordering_then}
+use Rattle.std.specs.List.{All, AllByRecursion, list_any, slice_get, zip}
+use Rattle.std.specs.List.Sorted.{IsNonDecreasingBy, IsStrictlySortedBy}
+use Rattle.std.specs.Ordering.{int_cmp, int_eq, is_eq, is_lt, ordering_index, ordering_then}
 use Rattle.std.specs.declared.cmp.Ordering.{Ordering}
 use Rattle.std.specs.declared.cmp.Ordering.TheVariants.{Less, Equal, Greater}
-use Rattle.std.specs.Prelude.{◌||◌, if◌then◌else◌}
+use Rattle.std.specs.Prelude.{◌||◌, ◌-◌, ◌⊎◌, if◌then◌else◌}
+use Rattle.std.proofs.Math.Logic.{inl, inr}
 use Rattle.td_check.specs.OperatorTypes.{same_heading}
 use Rattle.td_eval.specs.OperatorValues.{comparison_value, tuple_from}
 use Rattle.std.specs.Global.{Vec}
@@ -23,7 +27,7 @@ use Rattle.td_plan.specs.declared.running.hand.Inside.{Inside}
 use Rattle.td_plan.specs.Plans as plans
 use Rattle.td_plan.specs.Plans.{plan_value, value_or}
 use Rattle.td_plan.specs.code.Hands.{slots_inside}
-use Rattle.td_plan.specs.code.Memberships.{tuple_inside}
+use Rattle.td_plan.specs.code.Memberships.{AreBefore, tuple_inside}
 use Rattle.td_plan.specs.code.Quick.{AreInRows, AreQuick}
 use Rattle.td_plan.specs.code.QuickInside.{value_inside}
 use Rattle.td_plan.specs.code.StepViews.{step_view, steps_view}
@@ -33,8 +37,9 @@ use Rattle.td_types.specs.Types as types
 use Rattle.td_types.specs.Types.{Heading, Type', same_name, type_at}
 use Rattle.td_types.specs.TypeOrder.{heading_cmp_total}
 use Rattle.td_types.specs.code.TypeCode.{unpack_pack}
+use Rattle.td_value.proofs.Places.{in_order}
 use Rattle.td_value.specs.Sets.{has}
-use Rattle.td_value.specs.Values.{Relation, Tuple, Val, IsTupleOf, boolean, heading_of, integer, relation_value, tuple_cmp, tuple_value}
+use Rattle.td_value.specs.Values.{IsAscendingBody, Relation, Tuple, Val, IsTupleOf, boolean, heading_of, integer, relation_value, tuple_cmp, tuple_value}
 use Rattle.td_value.specs.code.ValueCode.{unpack_pack_fields, unpack_pack_rows}
 use Rattle.td_value.specs.code.Views.{values_of}
 
@@ -143,12 +148,82 @@ then_equal Less = refl
 then_equal Equal = refl
 then_equal Greater = refl
 
+tied_numbers : (n : List ℕ) (z y : ℤ) → tuple_cmp (one_number n z) (one_number n y) ≡ int_cmp z y
+tied_numbers n z y = rw (tied_itself nat_list_cmp_total n) (then_equal (int_cmp z y))
+
 has_number : (n : List ℕ) (z : ℤ) (ys : List ℤ) → has tuple_cmp (one_number n z) (map (one_number n) ys) ≡ has int_cmp z ys
 has_number n z [] = refl
-has_number n z (y ∷ ys) = λ i. is_eq (tied i) || has_number n z ys i
+has_number n z (y ∷ ys) = λ i. is_eq (tied_numbers n z y i) || has_number n z ys i
+
+all_above : (n : List ℕ) (y : ℤ) (zs : List ℤ) → AllByRecursion (λ t. tuple_cmp (one_number n y) t ≡ Less) (map (one_number n) zs) → AllByRecursion (λ z. int_cmp y z ≡ Less) zs
+all_above n y [] h = tt
+all_above n y (z ∷ zs) h = (sym (tied_numbers n y z) ∙ h.0, all_above n y zs h.1)
+
+-- the numbers of tuples that ascend do so too
+pub numbers_ascend : (n : List ℕ) (ys : List ℤ) → IsAscendingBody (map (one_number n) ys) → IsStrictlySortedBy int_cmp ys
+unfolding IsStrictlySortedBy
+numbers_ascend n [] a = tt
+numbers_ascend n (y ∷ ys) a = (all_above n y ys a.0, numbers_ascend n ys a.1)
+
+-- ---- whether a number is among numbers that ascend
+
+pub less_from_test : (o : Ordering) → is_lt o ≡ true → o ≡ Less
+less_from_test Less h = refl
+less_from_test Equal h = absurd (cc)
+less_from_test Greater h = absurd (cc)
+
+least : (o : Ordering) → ordering_index o ≤ 0 → o ≡ Less
+least Less h = refl
+least Equal h = absurd (omega (arith, h))
+least Greater h = absurd (omega (arith, h))
+
+most : (o : Ordering) → 2 ≤ ordering_index o → o ≡ Greater
+most Less h = absurd (omega (arith, h))
+most Equal h = absurd (omega (arith, h))
+most Greater h = refl
+
+searchable : (ys : List ℤ) (z : ℤ) → IsStrictlySortedBy int_cmp ys → IsNonDecreasingBy (λ y. ordering_index (int_cmp y z)) ys
+searchable ys z sorted =
+    searchable_from_sorted int_cmp_total (λ (y : ℤ). y) ys z (in_order int_cmp int_cmp_total (λ x y e. (Decides-int_eq x y).0 (ap is_eq e)) ys sorted)
+
+-- the number that is at a place
+abbrev pub IsThere : List ℤ → ℕ → ℤ → Type 0
+IsThere ys place y = (place < length ys) × ((d : ℤ) → y ≡ get_or ys place d)
+
+-- where one is below the number, so are all before it
+pub are_before : (ys : List ℤ) (place : ℕ) (z y : ℤ) → IsStrictlySortedBy int_cmp ys → IsThere ys (place - 1) y → int_cmp y z ≡ Less → AreBefore ys place z
+are_before ys place z y sorted there below k d before inside =
+    let last : int_cmp (get_or ys (place - 1) d) z ≡ Less = ap (λ x. int_cmp x z) (sym (there.1 d)) ∙ below in
+    least (int_cmp (get_or ys k d) z)
+    (subst (λ o. ordering_index (int_cmp (get_or ys k d) z) ≤ ordering_index o) last (searchable ys z sorted k (place - 1) d (omega (arith, before)) there.0))
+
+other : (y z : ℤ) (o : Ordering) → int_cmp y z ≡ o → is_eq o ≡ false → int_eq z y ≡ false
+other y z o is apart = int_eq_equiv.symm z y ∙ ap is_eq is ∙ apart
+
+-- no member is after those below the number
+pub is_behind_all : (ys : List ℤ) (place : ℕ) (z : ℤ) → AreBefore ys place z → length ys ≤ place → has int_cmp z ys ≡ false
+is_behind_all ys place z before past =
+    list_any_none (int_eq z) ys (λ k d inside. other (get_or ys k d) z Less (before k d (omega (arith, past, inside)) inside) refl)
+
+-- the member after those below the number is above it
+pub is_between : (ys : List ℤ) (place : ℕ) (z y : ℤ) → IsStrictlySortedBy int_cmp ys → AreBefore ys place z → IsThere ys place y → int_cmp y z ≡ Greater
+    → has int_cmp z ys ≡ false
+is_between ys place z y sorted before there above = list_any_none (int_eq z) ys (λ k d inside. at k d inside (cases_lt k place))
   where
-    tied : tuple_cmp (one_number n z) (one_number n y) ≡ int_cmp z y
-    tied = rw (tied_itself nat_list_cmp_total n) (then_equal (int_cmp z y))
+    at : (k : ℕ) (d : ℤ) → k < length ys → (k < place) ⊎ (place ≤ k) → int_eq z (get_or ys k d) ≡ false
+    at k d inside (inl l) = other (get_or ys k d) z Less (before k d l inside) refl
+    at k d inside (inr l) =
+        let here : int_cmp (get_or ys place d) z ≡ Greater = ap (λ x. int_cmp x z) (sym (there.1 d)) ∙ above in
+        other (get_or ys k d) z Greater
+        (most (int_cmp (get_or ys k d) z)
+        (subst (λ o. ordering_index o ≤ ordering_index (int_cmp (get_or ys k d) z)) here (searchable ys z sorted place k d l inside)))
+        refl
+
+-- a member is the number
+pub stands_there : (ys : List ℤ) (place : ℕ) (z y : ℤ) → IsThere ys place y → int_cmp y z ≡ Equal → has int_cmp z ys ≡ true
+stands_there ys place z y there same =
+    list_any_at (int_eq z) ys place z there.0
+    (ap (int_eq z) (sym (there.1 z)) ∙ int_eq_equiv.symm z y ∙ ap is_eq same)
 
 are_number_members : (n : List ℕ) (r : Relation) (ys zs : List ℤ) → r.heading ≡ (n, types.integer) ∷ [] → r.body ≡ map (one_number n) ys
     → map (λ z. comparison_value comparisons.In (tuple_value (one_number n z)) (relation_value r)) zs

@@ -1,6 +1,8 @@
 -- Tuples that are made of parts in each tuple of a loop (this project's own).
 use Rattle.std.specs.Global.{Vec}
-use Rattle.std.specs.Prelude.{◌≡◌, ℕ, Bool, List, [], ◌∷◌, ◌++◌, Option}
+use Rattle.std.specs.Prelude.{◌≡◌, ◌<◌, ℕ, ℤ, Bool, List, [], ◌∷◌, ◌++◌, Option, get_or, length}
+use Rattle.std.specs.declared.cmp.Ordering.TheVariants.{Less}
+use Rattle.std.specs.Ordering.{int_cmp}
 use Rattle.std.specs.List.{zip}
 use Rattle.td_eval.specs.OperatorValues.{comparison_value, tuple_from}
 use Rattle.td_eval.specs.Worlds.{World}
@@ -38,3 +40,7 @@ AreMemberships batch names parts rel found =
     (ps : Parts) (w : World) → AreSound ps parts → IsMemoInside ps w batch.inside.now batch.memo.now
     → AreQuick boolean (λ t. with_value (tuple_inside w batch.inside.now names parts t) (λ v. comparison_value comparisons.In v (relation_value rel)))
     batch.rows.now found
+
+-- all members before the place are below the number
+abbrev pub AreBefore : List ℤ → ℕ → ℤ → Type 0
+AreBefore members place number = (k : ℕ) (d : ℤ) → k < place → k < length members → int_cmp (get_or members k d) number ≡ Less

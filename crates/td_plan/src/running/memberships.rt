@@ -1,13 +1,14 @@
 //! IN a relation that is the same for all tuples of a loop: its tuples are hashed once.
-ghost use Rattle.std.specs.Prelude.{◌≡◌, [], ◌∷◌, ℤ, IfOk, IsTrue, List, map};
+ghost use Rattle.std.specs.Prelude.{◌≡◌, [], ◌∷◌, ℤ, IfOk, IfSome, IsTrue, List, map};
 ghost use Rattle.std.specs.HashSet.{contains};
-ghost use Rattle.std.specs.List.Sorted.{IsPermutation};
+ghost use Rattle.std.specs.List.Sorted.{IsPermutation, IsStrictlySortedBy};
 ghost use Rattle.std.specs.Ordering.{eq_by_cmp, int_cmp};
 ghost use Rattle.td_algebra.specs.code.Layouts.{numbered_sources};
 ghost use Rattle.td_eval.specs.OperatorValues.{comparison_value};
 ghost use Rattle.td_eval.specs.Worlds.{World};
 ghost use Rattle.td_plan.specs.code.Hands.{slots_of};
-ghost use Rattle.td_plan.specs.code.Memberships.{AreMemberships, IsPutInHand, tuple_inside};
+ghost use Rattle.td_plan.specs.code.Memberships.{AreBefore, AreMemberships, IsPutInHand};
+ghost use Rattle.td_plan.specs.code.Memberships.{tuple_inside};
 ghost use Rattle.td_plan.specs.code.Memos.{AreSound, IsMemo, IsSound, Parts};
 ghost use Rattle.td_plan.specs.code.Quick.{AreInRows, AreQuick, IsQuick};
 ghost use Rattle.td_plan.specs.code.QuickInside.{AreComparedIn, FoundIn, IsMemoInside};
@@ -28,6 +29,7 @@ use crate::running::memo::{Memo, lent_answer};
 use crate::running::quick::quick_value;
 use crate::running::quick_numbers::{attribute_numbers, quick_numbers};
 use std::alloc::{AllocError, Global};
+use std::cmp::Ordering;
 use std::collections::HashSet;
 use td_algebra::laid_out::LaidOut;
 use td_algebra::layout::Layout;
@@ -163,11 +165,77 @@ fn hashed_numbers(alloc: Global, numbers: &[i64]) -> Result<HashSet<i64>, AllocE
     Ok(set)
 }
 
-/// Which of the numbers are among the members.
+/// The first place, from this one on, where no member is below the number.
+fn place_from(members: &[i64], place: usize, number: i64) -> usize {
+    for later in place..members.len() {
+        if members[later] >= number {
+            return later;
+        }
+    }
+    members.len()
+}
+
+/// Whether all members before the place are below the number, where they ascend.
+#[inline]
+fn is_behind(members: &[i64], place: usize, number: i64) -> bool
+    requires { IsStrictlySortedBy int_cmp members.now }
+    ensures { IsTrue result → AreBefore members.now place number }
+{
+    if place == 0 {
+        return true;
+    }
+    match members.get(place - 1) {
+        Some(member) => member.cmp(&number).is_lt(),
+        None => false,
+    }
+}
+
+/// Whether the number is among members that ascend, if the place tells: it is there, or would be.
+#[inline]
+fn told_at(members: &[i64], place: usize, number: i64) -> Option<bool>
+    requires { IsStrictlySortedBy int_cmp members.now }
+    ensures { IfSome result (λ told. told ≡ has int_cmp number members.now) }
+{
+    if !is_behind(members, place, number) {
+        return None;
+    }
+    match members.get(place) {
+        None => Some(false),
+        Some(member) => match member.cmp(&number) {
+            Ordering::Less => None,
+            Ordering::Equal => Some(true),
+            Ordering::Greater => Some(false),
+        },
+    }
+}
+
+/// Which of the numbers are among members that ascend, if the numbers do so too.
+fn merged(alloc: Global, numbers: &[i64], members: &[i64]) -> Found<bool>
+    requires { IsStrictlySortedBy int_cmp members.now }
+    ensures { IfOk result (λ found. IfSome found (λ truths.
+        truths.items ≡ map (λ z. has int_cmp z members.now) numbers.now)) }
+{
+    let mut truths = Vec::with_capacity(alloc, numbers.len())?;
+    let mut place = 0;
+    for number in numbers {
+        place = place_from(members, place, *number);
+        let Some(told) = told_at(members, place, *number) else {
+            return Ok(None);
+        };
+        truths.push(told)?;
+    }
+    Ok(Some(truths))
+}
+
+/// Which of the numbers are among members that ascend.
 fn numbers_among(alloc: Global, numbers: &[i64], members: &[i64]) -> Result<Vec<bool>, AllocError>
+    requires { IsStrictlySortedBy int_cmp members.now }
     ensures { IfOk result (λ truths.
         truths.items ≡ map (λ z. has int_cmp z members.now) numbers.now) }
 {
+    if let Some(truths) = merged(alloc, numbers, members)? {
+        return Ok(truths);
+    }
     let members = hashed_numbers(alloc, members)?;
     let mut truths = Vec::with_capacity(alloc, numbers.len())?;
     for number in numbers {

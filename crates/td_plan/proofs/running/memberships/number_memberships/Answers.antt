@@ -1,7 +1,7 @@
 use Rattle.std.proofs.Common.{◌≡◌, ◌∙◌, ◌∷◌, [], arith, subst, sym}
 use Rattle.std.specs.List.{slice_get}
 use Rattle.td_eval.specs.OperatorValues.{comparison_value}
-use Rattle.td_plan.proofs.Memberships.{numbers_in_rows, one_item, rows_of_one}
+use Rattle.td_plan.proofs.Memberships.{numbers_ascend, numbers_in_rows, one_item, rows_of_one}
 use Rattle.td_plan.proofs.QuickRows.{found_in}
 use Rattle.td_plan.proofs.SoundSteps.{sound_at}
 use Rattle.td_plan.specs.Plans.{value_or}
@@ -11,9 +11,21 @@ use Rattle.td_plan.specs.code.QuickInside.{value_inside}
 use Rattle.td_tree.specs.declared.operator.Comparison.TheVariants as comparisons
 use Rattle.td_tree.specs.Outcomes.{with_value}
 use Rattle.td_types.specs.Types as types
-use Rattle.td_value.specs.Values.{Tuple, Val, boolean, integer, relation_value}
+use Rattle.td_value.specs.Values.{IsAscendingBody, Tuple, Val, boolean, integer, relation_value}
 use Rattle.td_value.specs.code.Views.{values_of}
 use Rattle.td_plan.proofs.running.memberships.number_memberships.Goals as goal
+
+pub numbers_among-requires : goal.numbers_among-requires
+numbers_among-requires c =
+    let rel = c.args.rel.now in
+    let name = c.name-item.result in
+    let f = λ (t : Tuple). value_or (slice_get (values_of t) 0) in
+    let ys = c.deref-in-Some-2.result.now in
+    let headed : rel.heading ≡ (name, types.integer) ∷ [] = sym c.heading.ensures ∙ c.is_one_number.ensures c.if-not-is_one_number.false in
+    let members : AreInRows integer f rel.body ys =
+    subst (λ xs. AreInRows integer f xs ys) c.rows.ensures.rows
+    (found_in integer f c.rows.result.now c.in_ok-members.field-0 c.in-Some.members c.in-Some.is c.in_ok-members.ensures ys c.deref-in-Some-2.ensures.value) in
+    numbers_ascend name ys (subst IsAscendingBody (rows_of_one name rel.heading rel.body ys headed c.rows.ensures.headed members) c.rows.ensures.ascending)
 
 pub returns-in-Some-2 : goal.returns-in-Some-2
 returns-in-Some-2 c = λ ps w sound m.
