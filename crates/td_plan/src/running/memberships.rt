@@ -1,13 +1,14 @@
 //! IN a relation that is the same for all tuples of a loop: its tuples are hashed once.
-ghost use Rattle.std.specs.Prelude.{◌≡◌, IfOk, IsTrue, List};
+ghost use Rattle.std.specs.Prelude.{◌≡◌, [], ◌∷◌, ℤ, IfOk, IfSome, IsTrue, List, map};
 ghost use Rattle.std.specs.HashSet.{contains};
-ghost use Rattle.std.specs.List.Sorted.{IsPermutation};
-ghost use Rattle.std.specs.Ordering.{eq_by_cmp};
+ghost use Rattle.std.specs.List.Sorted.{IsPermutation, IsStrictlySortedBy};
+ghost use Rattle.std.specs.Ordering.{eq_by_cmp, int_cmp};
 ghost use Rattle.td_algebra.specs.code.Layouts.{numbered_sources};
 ghost use Rattle.td_eval.specs.OperatorValues.{comparison_value};
 ghost use Rattle.td_eval.specs.Worlds.{World};
 ghost use Rattle.td_plan.specs.code.Hands.{slots_of};
-ghost use Rattle.td_plan.specs.code.Memberships.{IsPutInHand, tuple_inside};
+ghost use Rattle.td_plan.specs.code.Memberships.{AreBefore, AreMemberships, IsPutInHand};
+ghost use Rattle.td_plan.specs.code.Memberships.{tuple_inside};
 ghost use Rattle.td_plan.specs.code.Memos.{AreSound, IsMemo, IsSound, Parts};
 ghost use Rattle.td_plan.specs.code.Quick.{AreInRows, AreQuick, IsQuick};
 ghost use Rattle.td_plan.specs.code.QuickInside.{AreComparedIn, FoundIn, IsMemoInside};
@@ -17,6 +18,7 @@ ghost use Rattle.td_plan.specs.declared.running.hand.Inside.{Inside};
 ghost use Rattle.td_tree.specs.declared.operator.Comparison.TheVariants as comparisons;
 ghost use Rattle.td_tree.specs.Outcomes.{Outcome, Valued, gathered, with_value};
 ghost use Rattle.td_types.specs.Headings.{are_distinct};
+ghost use Rattle.td_types.specs.Types as types;
 ghost use Rattle.td_value.specs.Sets.{has};
 ghost use Rattle.td_value.specs.Values.{Tuple, Val, boolean, relation_value, tuple_cmp};
 ghost use Rattle.td_value.specs.Values.{tuple_value};
@@ -25,13 +27,17 @@ use crate::plan::step::{Dyadic, Selector, Step};
 use crate::running::hand::{Batch, Found, Hand, hand_inside};
 use crate::running::memo::{Memo, lent_answer};
 use crate::running::quick::quick_value;
+use crate::running::quick_numbers::{attribute_numbers, quick_numbers};
 use std::alloc::{AllocError, Global};
+use std::cmp::Ordering;
 use std::collections::HashSet;
 use td_algebra::laid_out::LaidOut;
 use td_algebra::layout::Layout;
 use td_eval::flat::layout_of;
 use td_tree::name::Name;
 use td_tree::operator::Comparison;
+use td_types::heading::Heading;
+use td_types::ty::Ty;
 use td_value::relation::Rel;
 use td_value::tuple::{Tuple, have_heading};
 use td_value::value::{Node, Value};
@@ -147,15 +153,138 @@ fn members_among(alloc: Global, tuples: &[Tuple], rel: &Rel) -> Found<bool>
     Ok(Some(truths))
 }
 
+/// The numbers, hashed.
+fn hashed_numbers(alloc: Global, numbers: &[i64]) -> Result<HashSet<i64>, AllocError>
+    ensures { IfOk result (λ set. (z : ℤ)
+        → contains (eq_by_cmp int_cmp) set z ≡ has int_cmp z numbers.now) }
+{
+    let mut set = HashSet::with_capacity(alloc, numbers.len())?;
+    for number in numbers {
+        set.insert(*number)?;
+    }
+    Ok(set)
+}
+
+/// The first place, from this one on, where no member is below the number.
+fn place_from(members: &[i64], place: usize, number: i64) -> usize {
+    for later in place..members.len() {
+        if members[later] >= number {
+            return later;
+        }
+    }
+    members.len()
+}
+
+/// Whether all members before the place are below the number, where they ascend.
+#[inline]
+fn is_behind(members: &[i64], place: usize, number: i64) -> bool
+    requires { IsStrictlySortedBy int_cmp members.now }
+    ensures { IsTrue result → AreBefore members.now place number }
+{
+    if place == 0 {
+        return true;
+    }
+    match members.get(place - 1) {
+        Some(member) => member.cmp(&number).is_lt(),
+        None => false,
+    }
+}
+
+/// Whether the number is among members that ascend, if the place tells: it is there, or would be.
+#[inline]
+fn told_at(members: &[i64], place: usize, number: i64) -> Option<bool>
+    requires { IsStrictlySortedBy int_cmp members.now }
+    ensures { IfSome result (λ told. told ≡ has int_cmp number members.now) }
+{
+    if !is_behind(members, place, number) {
+        return None;
+    }
+    match members.get(place) {
+        None => Some(false),
+        Some(member) => match member.cmp(&number) {
+            Ordering::Less => None,
+            Ordering::Equal => Some(true),
+            Ordering::Greater => Some(false),
+        },
+    }
+}
+
+/// Which of the numbers are among members that ascend, if the numbers do so too.
+fn merged(alloc: Global, numbers: &[i64], members: &[i64]) -> Found<bool>
+    requires { IsStrictlySortedBy int_cmp members.now }
+    ensures { IfOk result (λ found. IfSome found (λ truths.
+        truths.items ≡ map (λ z. has int_cmp z members.now) numbers.now)) }
+{
+    let mut truths = Vec::with_capacity(alloc, numbers.len())?;
+    let mut place = 0;
+    for number in numbers {
+        place = place_from(members, place, *number);
+        let Some(told) = told_at(members, place, *number) else {
+            return Ok(None);
+        };
+        truths.push(told)?;
+    }
+    Ok(Some(truths))
+}
+
+/// Which of the numbers are among members that ascend.
+fn numbers_among(alloc: Global, numbers: &[i64], members: &[i64]) -> Result<Vec<bool>, AllocError>
+    requires { IsStrictlySortedBy int_cmp members.now }
+    ensures { IfOk result (λ truths.
+        truths.items ≡ map (λ z. has int_cmp z members.now) numbers.now) }
+{
+    if let Some(truths) = merged(alloc, numbers, members)? {
+        return Ok(truths);
+    }
+    let members = hashed_numbers(alloc, members)?;
+    let mut truths = Vec::with_capacity(alloc, numbers.len())?;
+    for number in numbers {
+        truths.push(members.contains(number))?;
+    }
+    Ok(truths)
+}
+
+/// Whether the heading gives INTEGER to that name, and has no other.
+fn is_one_number(heading: &Heading, name: &Name) -> bool
+    ensures { IsTrue result → heading.now ≡ (name.now, types.integer) ∷ [] }
+{
+    match heading.get(name) {
+        Some(Ty::Int) => heading.len() == 1,
+        _ => false,
+    }
+}
+
+/// The truth values of IN the relation, where tuple and relation have one attribute each, and all
+/// that it has are numbers.
+fn number_memberships(batch: &Batch<'_>, names: &[Name], parts: &[Step], rel: &Rel) -> Found<bool>
+    ensures { IfOk result (AreMemberships batch.now names.now parts.now rel.now) }
+{
+    let [name] = names else {
+        return Ok(None);
+    };
+    let [part] = parts else {
+        return Ok(None);
+    };
+    if !is_one_number(rel.heading(), name) {
+        return Ok(None);
+    }
+    let Some(members) = attribute_numbers(batch.alloc, rel.rows(), 0)? else {
+        return Ok(None);
+    };
+    match quick_numbers(batch, part)? {
+        Some(numbers) => Ok(Some(numbers_among(batch.alloc, &numbers, &members)?)),
+        None => Ok(None),
+    }
+}
+
 /// The truth values of IN the relation, for the tuples that give the names the values of the parts
 /// in each of the rows.
 fn memberships_of(batch: &Batch<'_>, names: &[Name], parts: &[Step], rel: &Rel) -> Found<bool>
-    ensures { IfOk result (λ found. (ps : Parts) (w : World) → AreSound ps parts.now
-        → IsMemoInside ps w batch.now.inside.now batch.now.memo.now → AreQuick boolean (λ t.
-        with_value (tuple_inside w batch.now.inside.now names.now parts.now t)
-        (λ v. comparison_value comparisons.In v (relation_value rel.now))) batch.now.rows.now
-        found) }
+    ensures { IfOk result (AreMemberships batch.now names.now parts.now rel.now) }
 {
+    if let Some(truths) = number_memberships(batch, names, parts, rel)? {
+        return Ok(Some(truths));
+    }
     let Some(layout) = layout_of(batch.alloc, names)? else {
         return Ok(None);
     };

@@ -32,7 +32,7 @@ fn same_numbers(alloc: Global, found: Option<&Value>, count: usize) -> Found<i64
 }
 
 /// The numbers that are an attribute of the tuples.
-fn attribute_numbers(alloc: Global, rows: &[Tuple], place: usize) -> Found<i64>
+pub(crate) fn attribute_numbers(alloc: Global, rows: &[Tuple], place: usize) -> Found<i64>
     ensures { IfOk result
         (AreQuick integer (λ t. value_or (slice_get (values_of t) place)) rows.now) }
 {

@@ -1,13 +1,17 @@
 use Rattle.std.proofs.Common.{◌∙◌, ap}
+use Rattle.std.proofs.lemmas.Cmp.{eq_by_cmp_equiv}
 use Rattle.std.proofs.lemmas.List.{take_all}
+use Rattle.std.specs.Ordering.{eq_by_cmp}
 use Rattle.td_value.specs.Sets.{has}
 use Rattle.td_value.specs.Values.{tuple_cmp}
+use Rattle.td_value.specs.ValueOrder.{tuple_order_total}
 use Rattle.td_plan.proofs.Memberships.{one_hashed}
 use Rattle.td_plan.proofs.running.memberships.hashed.Goals as goal
 
 pub loop-row-preserved : goal.loop-row-preserved
 loop-row-preserved c =
-    one_hashed c.loop-row.set c.insert.new.self c.in_ok-try_clone.field-0 c.args.rows.now c.loop-row.row-index c.row-item.result c.in_ok-try_clone.ensures
+    one_hashed (eq_by_cmp tuple_cmp) (eq_by_cmp_equiv tuple_order_total).symm c.loop-row.set c.insert.new.self c.in_ok-try_clone.field-0 c.args.rows.now
+    c.loop-row.row-index c.row-item.result c.in_ok-try_clone.ensures
     c.loop-row-test.true c.row-item.is c.in_ok-insert.ensures.updates.0 c.loop-row.invariant
 
 pub returns : goal.returns
