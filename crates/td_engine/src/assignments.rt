@@ -333,6 +333,9 @@ fn settle_gifts<B: Body>(
     requires added { AreTestedByAdditions catalog.now.database given.now.entries }
     ensures { Changes catalog.now.database result (checked_effect catalog.now.database) }
 {
+    if catalog.virtual_count() == 0 && catalog.constraint_count() == 0 {
+        return Ok(());
+    }
     let reached = reached_from(catalog, names_of_all(alloc, given)?)?;
     let added = added_alone(given);
     check_after(alloc, catalog, &reached, added.as_ref())

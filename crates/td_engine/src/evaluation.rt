@@ -70,13 +70,13 @@ pub(crate) fn value_with<'a, B: Body>(
 // ---- relations of a heading
 
 /// The relation, where it is of the heading.
-pub(crate) fn of_heading(heading: &Heading, relation: &Rel) -> Result<Rel, Fault>
+pub(crate) fn of_heading(heading: &Heading, relation: Rel) -> Result<Rel, Fault>
     ensures answer { (r : Relation) → r.heading ≡ heading.now
-        → Answers (λ s. s) result (of_heading r relation.now) }
+        → Answers (λ s. s) result (of_heading r relation) }
     ensures heading { IfOk result (λ s. s.heading ≡ heading.now) }
 {
     if relation.heading() == heading {
-        Ok(relation.try_clone()?)
+        Ok(relation)
     } else {
         Err(Fault::Refused(Cause::Heading))
     }
@@ -89,7 +89,7 @@ fn relation_in(heading: &Heading, value: &Value) -> Result<Rel, Fault>
     ensures heading { IfOk result (λ s. s.heading ≡ heading.now) }
 {
     match &value.node {
-        Node::Rel(relation) => of_heading(heading, relation),
+        Node::Rel(relation) => of_heading(heading, relation.try_clone()?),
         _ => Err(Fault::Refused(Cause::TypeMismatch)),
     }
 }

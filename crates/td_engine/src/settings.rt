@@ -96,5 +96,5 @@ pub(crate) fn updated_tuples<'a, B: Body>(
 {
     let attributes = setting_attributes(alloc, chosen.heading(), settings)?;
     let changed = set_in_tuples(alloc, env, chosen, attributes, settings)?;
-    of_heading(chosen.heading(), &changed)
+    of_heading(chosen.heading(), changed)
 }
