@@ -100,8 +100,10 @@ fn next_change<B: Body>(
     requires target { IsTarget B.relation B.keys target.now }
     requires named { target_of (assignment_view assignment.now) ≡ target.now.name.now }
     requires change { IsOfHeading (B.relation target.now.entry.now.body).heading change.now }
-    requires gift { IsGift target.now.catalog.now.database (target.now.name.now,
-        changed_by change.now (B.relation target.now.entry.now.body)) }
+    requires gift { IsGift target.now.catalog.now.database (
+      target.now.name.now,
+      changed_by change.now (B.relation target.now.entry.now.body),
+    ) }
     ensures answer { Answers (λ c. changed_by c (B.relation target.now.entry.now.body)) result
         (gift_over target.now.catalog.now.database
         (changed_by change.now (B.relation target.now.entry.now.body))

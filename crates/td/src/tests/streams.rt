@@ -19,7 +19,10 @@ const LINES: &[(&[&str], Said)] = &[
     (&["td", "run", "a"], Some((Mode::Run, false, Some("a")))),
     (&["td", "dump", "-"], Some((Mode::Dump, false, Some("-")))),
     (&["td", "run", "--stop"], Some((Mode::Run, true, None))),
-    (&["td", "run", "--stop", "a"], Some((Mode::Run, true, Some("a")))),
+    (
+        &["td", "run", "--stop", "a"],
+        Some((Mode::Run, true, Some("a"))),
+    ),
     (&["td", "walk", "a"], None),
 ];
 

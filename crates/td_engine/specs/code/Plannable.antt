@@ -6,9 +6,6 @@ use Rattle.td_check.specs.Scopes.{entered_with}
 use Rattle.td_check.specs.StatementTypes.{assignment_checked}
 use Rattle.td_check.specs.StaticTypes.{named_types, type_of}
 use Rattle.td_engine.specs.Assignments.{chosen_for, source_world}
-use Rattle.td_engine.specs.Changes.{given_as}
-use Rattle.td_engine.specs.code.Gifts.{IsGift}
-use Rattle.td_engine.specs.declared.change.Change.{Change}
 use Rattle.td_eval.specs.DatabaseWorlds.{world_of}
 use Rattle.td_eval.specs.UnfailingValues.{GivesValues}
 use Rattle.td_eval.specs.ValueTypes.{IsTypedTuple}
@@ -30,10 +27,6 @@ IsPlannableIf db None = ⊤
 IsPlannableIf db (Some e) = IsPlannable db e
 
 -- ---- assignments
-
--- what a change leaves of what its target held is what the target may be given
-abbrev pub LeavesGift : Database → List ℕ × Change → Type 0
-LeavesGift db change = IsGift db (change.0, given_as db change.0 change.1)
 
 -- an expression that is there is written as tokens spell it
 abbrev pub IsWrittenIf : Option Tree → Type 0
