@@ -80,7 +80,7 @@ impl<'c, B: Body> Target<'c, B> {
     }
 
     /// Whether each of the tuples is a member of it so far, or whether none is, as is wanted.
-    fn has_all(&self, tuples: &Rel, wanted: bool) -> bool
+    fn are_members(&self, tuples: &Rel, wanted: bool) -> bool
         requires { tuples.now.heading ≡ (so_far B.relation self.now).heading }
         ensures { result
             ≡ list_all (is_wanted wanted (so_far B.relation self.now).body) tuples.now.body }
@@ -96,7 +96,7 @@ impl<'c, B: Body> Target<'c, B> {
     // ---- what expressions give
 
     /// The tuples of a source, which are of its heading.
-    fn assigned(&self, source: &Expr) -> Result<Rel, Fault>
+    fn source_tuples(&self, source: &Expr) -> Result<Rel, Fault>
         requires target { IsTarget B.relation B.keys self.now }
         requires source { IsSourceFor B.relation self.now (tree_view source.now) }
         ensures answer { Answers (λ r. r) result (relation_for (so_far B.relation self.now)
@@ -108,7 +108,7 @@ impl<'c, B: Body> Target<'c, B> {
     }
 
     /// The tuples for which a condition is TRUE, all without one. What fixes a key looks them up.
-    fn chosen(&self, condition: Option<&Expr>) -> Result<Rel, Fault>
+    fn chosen_tuples(&self, condition: Option<&Expr>) -> Result<Rel, Fault>
         requires target { IsTarget B.relation B.keys self.now }
         requires condition { IsConditionFor B.relation self.now
             (option_map (λ e. tree_view e.now) condition) }
@@ -124,7 +124,7 @@ impl<'c, B: Body> Target<'c, B> {
     }
 
     /// What UPDATE makes of the chosen tuples.
-    fn updated(&self, chosen: &Rel, settings: &[NamedExpr]) -> Result<Rel, Fault>
+    fn updated_tuples(&self, chosen: &Rel, settings: &[NamedExpr]) -> Result<Rel, Fault>
         requires target { IsTarget B.relation B.keys self.now }
         requires heading { chosen.now.heading ≡ (so_far B.relation self.now).heading }
         requires settings { AreSettingsFor B.relation self.now (Valued chosen.now)
@@ -148,7 +148,7 @@ impl<'c, B: Body> Target<'c, B> {
             (trees.assign self.now.name.now (tree_view source.now)) }
         ensures headings { IfOk result (IsOfHeading (so_far B.relation self.now).heading) }
     {
-        let relation = self.assigned(source)?;
+        let relation = self.source_tuples(source)?;
         Ok(Change::between(self.alloc, &self.relation()?, &relation)?)
     }
 
@@ -160,7 +160,7 @@ impl<'c, B: Body> Target<'c, B> {
             (trees.insert self.now.name.now (tree_view source.now)) }
         ensures headings { IfOk result (IsOfHeading (so_far B.relation self.now).heading) }
     {
-        let add = self.assigned(source)?;
+        let add = self.source_tuples(source)?;
         Ok(Change::adding(self.alloc, add)?)
     }
 
@@ -172,8 +172,8 @@ impl<'c, B: Body> Target<'c, B> {
             (trees.disjoint_insert self.now.name.now (tree_view source.now)) }
         ensures headings { IfOk result (IsOfHeading (so_far B.relation self.now).heading) }
     {
-        let add = self.assigned(source)?;
-        if self.has_all(&add, false) {
+        let add = self.source_tuples(source)?;
+        if self.are_members(&add, false) {
             Ok(Change::adding(self.alloc, add)?)
         } else {
             Err(Fault::Refused(Cause::NotDisjoint))
@@ -188,8 +188,8 @@ impl<'c, B: Body> Target<'c, B> {
             (trees.included_delete self.now.name.now (tree_view source.now)) }
         ensures headings { IfOk result (IsOfHeading (so_far B.relation self.now).heading) }
     {
-        let out = self.assigned(source)?;
-        if self.has_all(&out, true) {
+        let out = self.source_tuples(source)?;
+        if self.are_members(&out, true) {
             Ok(Change::taking(self.alloc, out)?)
         } else {
             Err(Fault::Refused(Cause::NotIncluded))
@@ -205,7 +205,7 @@ impl<'c, B: Body> Target<'c, B> {
             (option_map (λ e. tree_view e.now) condition.entry)) }
         ensures headings { IfOk result (IsOfHeading (so_far B.relation self.now).heading) }
     {
-        let out = self.chosen(condition)?;
+        let out = self.chosen_tuples(condition)?;
         Ok(Change::taking(self.alloc, out)?)
     }
 
@@ -221,8 +221,8 @@ impl<'c, B: Body> Target<'c, B> {
             (option_map (λ e. tree_view e.now) condition.entry) (named_view settings.now)) }
         ensures headings { IfOk result (IsOfHeading (so_far B.relation self.now).heading) }
     {
-        let out = self.chosen(condition)?;
-        let add = self.updated(&out, settings)?;
+        let out = self.chosen_tuples(condition)?;
+        let add = self.updated_tuples(&out, settings)?;
         Ok(Change { out, add })
     }
 

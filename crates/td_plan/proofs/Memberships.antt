@@ -27,7 +27,7 @@ use Rattle.td_plan.specs.declared.running.hand.Inside.{Inside}
 use Rattle.td_plan.specs.Plans as plans
 use Rattle.td_plan.specs.Plans.{plan_value, value_or}
 use Rattle.td_plan.specs.code.Hands.{slots_inside}
-use Rattle.td_plan.specs.code.Memberships.{AreBefore, tuple_inside}
+use Rattle.td_plan.specs.code.Memberships.{AreAllBelow, tuple_inside}
 use Rattle.td_plan.specs.code.Quick.{AreInRows, AreQuick}
 use Rattle.td_plan.specs.code.QuickInside.{value_inside}
 use Rattle.td_plan.specs.code.StepViews.{step_view, steps_view}
@@ -191,7 +191,7 @@ abbrev pub IsThere : List ℤ → ℕ → ℤ → Type 0
 IsThere ys place y = (place < length ys) × ((d : ℤ) → y ≡ get_or ys place d)
 
 -- where one is below the number, so are all before it
-pub are_before : (ys : List ℤ) (place : ℕ) (z y : ℤ) → IsStrictlySortedBy int_cmp ys → IsThere ys (place - 1) y → int_cmp y z ≡ Less → AreBefore ys place z
+pub are_before : (ys : List ℤ) (place : ℕ) (z y : ℤ) → IsStrictlySortedBy int_cmp ys → IsThere ys (place - 1) y → int_cmp y z ≡ Less → AreAllBelow ys place z
 are_before ys place z y sorted there below k d before inside =
     let last : int_cmp (get_or ys (place - 1) d) z ≡ Less = ap (λ x. int_cmp x z) (sym (there.1 d)) ∙ below in
     least (int_cmp (get_or ys k d) z)
@@ -201,12 +201,12 @@ other : (y z : ℤ) (o : Ordering) → int_cmp y z ≡ o → is_eq o ≡ false �
 other y z o is apart = int_eq_equiv.symm z y ∙ ap is_eq is ∙ apart
 
 -- no member is after those below the number
-pub is_behind_all : (ys : List ℤ) (place : ℕ) (z : ℤ) → AreBefore ys place z → length ys ≤ place → has int_cmp z ys ≡ false
+pub is_behind_all : (ys : List ℤ) (place : ℕ) (z : ℤ) → AreAllBelow ys place z → length ys ≤ place → has int_cmp z ys ≡ false
 is_behind_all ys place z before past =
     list_any_none (int_eq z) ys (λ k d inside. other (get_or ys k d) z Less (before k d (omega (arith, past, inside)) inside) refl)
 
 -- the member after those below the number is above it
-pub is_between : (ys : List ℤ) (place : ℕ) (z y : ℤ) → IsStrictlySortedBy int_cmp ys → AreBefore ys place z → IsThere ys place y → int_cmp y z ≡ Greater
+pub is_between : (ys : List ℤ) (place : ℕ) (z y : ℤ) → IsStrictlySortedBy int_cmp ys → AreAllBelow ys place z → IsThere ys place y → int_cmp y z ≡ Greater
     → has int_cmp z ys ≡ false
 is_between ys place z y sorted before there above = list_any_none (int_eq z) ys (λ k d inside. at k d inside (cases_lt k place))
   where

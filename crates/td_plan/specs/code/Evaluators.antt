@@ -18,57 +18,57 @@ use Rattle.td_value.specs.Values.{Tuple, Val}
 
 -- ---- heights above those of steps
 
-abbrev pub over : Step → ℕ
-over step = suc (step_height step)
+abbrev pub height_over : Step → ℕ
+height_over step = suc (step_height step)
 
-abbrev pub over_all : List Step → ℕ
-over_all steps = suc (steps_height steps)
+abbrev pub height_over_all : List Step → ℕ
+height_over_all steps = suc (steps_height steps)
 
-abbrev pub over_two : Step → Step → ℕ
-over_two first second = suc (max (step_height first) (step_height second))
+abbrev pub height_over_both : Step → Step → ℕ
+height_over_both first second = suc (max (step_height first) (step_height second))
 
-abbrev pub over_with : Step → List Step → ℕ
-over_with first steps = suc (max (step_height first) (steps_height steps))
+abbrev pub height_over_one_and_all : Step → List Step → ℕ
+height_over_one_and_all first steps = suc (max (step_height first) (steps_height steps))
 
-abbrev pub over_behind : List Step → Step → ℕ
-over_behind items value = suc (max (steps_height items) (step_height value))
+abbrev pub height_over_bound : List Step → Step → ℕ
+height_over_bound items value = suc (max (steps_height items) (step_height value))
 
 -- the steps that are lower than this may be evaluated
-abbrev pub Below : {A F : Type 0} → (A → World) → Evaluator A F
+abbrev pub RunsBelow : {A F : Type 0} → (A → World) → Evaluator A F
     → (F → Bor A → MutBor Memo → Bor Hand → Bor Step → Type 0)
     → (F → Bor A → MutBor Memo → Bor Hand → Bor Step → Result Val Fault → MutBor Memo → Type 0) → ℕ → Type 0
-Below world e pre post height = ValuesBelow world e height pre post
+RunsBelow world e pre post height = ValuesBelow world e height pre post
 
 -- ---- parts of which steps are sound
 
-abbrev pub Sound : Step → Parts → Type 0
-Sound step ps = IsSound ps step
+abbrev pub SoundFor : Step → Parts → Type 0
+SoundFor step ps = IsSound ps step
 
-abbrev pub AllSound : List Step → Parts → Type 0
-AllSound steps ps = AreSound ps steps
+abbrev pub SoundForAll : List Step → Parts → Type 0
+SoundForAll steps ps = AreSound ps steps
 
-abbrev pub Two : Step → Step → Parts → Type 0
-Two first second ps = IsSound ps first × IsSound ps second
+abbrev pub SoundForBoth : Step → Step → Parts → Type 0
+SoundForBoth first second ps = IsSound ps first × IsSound ps second
 
-abbrev pub With : Step → List Step → Parts → Type 0
-With first steps ps = IsSound ps first × AreSound ps steps
+abbrev pub SoundForOneAndAll : Step → List Step → Parts → Type 0
+SoundForOneAndAll first steps ps = IsSound ps first × AreSound ps steps
 
-abbrev pub Behind : List Step → Step → Parts → Type 0
-Behind items value ps = AreSound ps items × IsSound ps value
+abbrev pub SoundForBound : List Step → Step → Parts → Type 0
+SoundForBound items value ps = AreSound ps items × IsSound ps value
 
 -- ---- what is kept
 
 -- it is right where these tuples are in scope
-abbrev pub Ready : {A F : Type 0} → (A → World) → Evaluator A F → Hand → Memo → (Parts → Type 0) → Type 0
-Ready world e hand memo are = IsReady (world e.around.now) (slots_of hand) memo are
+abbrev pub IsReadyAt : {A F : Type 0} → (A → World) → Evaluator A F → Hand → Memo → (Parts → Type 0) → Type 0
+IsReadyAt world e hand memo are = IsReady (world e.around.now) (slots_of hand) memo are
 
 -- it is right where these tuples are in their slots
-abbrev pub ReadyIn : {A F : Type 0} → (A → World) → Evaluator A F → List (Option Tuple) → Memo → (Parts → Type 0) → Type 0
-ReadyIn world e rows memo are = IsReady (world e.around.now) (slots_in rows) memo are
+abbrev pub IsReadyInRows : {A F : Type 0} → (A → World) → Evaluator A F → List (Option Tuple) → Memo → (Parts → Type 0) → Type 0
+IsReadyInRows world e rows memo are = IsReady (world e.around.now) (slots_in rows) memo are
 
 -- it is right in each tuple of the loop
-abbrev pub ReadyInside : {A F : Type 0} → (A → World) → Evaluator A F → Inside → Memo → (Parts → Type 0) → Type 0
-ReadyInside world e inside memo are = IsReadyBelow (world e.around.now) inside.slot (slots_in inside.outer.items) memo are
+abbrev pub IsReadyInside : {A F : Type 0} → (A → World) → Evaluator A F → Inside → Memo → (Parts → Type 0) → Type 0
+IsReadyInside world e inside memo are = IsReadyBelow (world e.around.now) inside.slot (slots_in inside.outer.items) memo are
 
 -- it stays right, and this holds in the world with these slots
 abbrev pub KeepsFor : {A F : Type 0} → (A → World) → Evaluator A F → Hand → Memo → Memo → (Parts → Type 0)
@@ -83,9 +83,9 @@ Runs world e hand old new are answer plan =
     KeepsFor world e hand old new are (λ w s. Answers (λ v. v) answer (plan_value w s plan))
 
 -- where it is right, and the steps are sound, this holds of what comes of putting tuples into slots
-abbrev pub Puts : {A F : Type 0} → (A → World) → Evaluator A F → List (Option Tuple) → Memo → (Parts → Type 0)
+abbrev pub PutsInSlots : {A F : Type 0} → (A → World) → Evaluator A F → List (Option Tuple) → Memo → (Parts → Type 0)
     → (Parts → World → Slots → Type 0) → Type 0
-Puts world e rows memo are claim =
+PutsInSlots world e rows memo are claim =
     (ps : Parts) → are ps → IsMemo ps (world e.around.now) (slots_in rows) memo → claim ps (world e.around.now) (slots_in rows)
 
 -- it stays right in each tuple of the loop, and this holds in the world with the slots outside of the loop and the loop's slot

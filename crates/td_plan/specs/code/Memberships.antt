@@ -42,5 +42,5 @@ AreMemberships batch names parts rel found =
     batch.rows.now found
 
 -- all members before the place are below the number
-abbrev pub AreBefore : List ℤ → ℕ → ℤ → Type 0
-AreBefore members place number = (k : ℕ) (d : ℤ) → k < place → k < length members → int_cmp (get_or members k d) number ≡ Less
+abbrev pub AreAllBelow : List ℤ → ℕ → ℤ → Type 0
+AreAllBelow members place number = (k : ℕ) (d : ℤ) → k < place → k < length members → int_cmp (get_or members k d) number ≡ Less

@@ -121,7 +121,10 @@ pub(crate) fn remember(
 }
 
 /// The step, beside the slots that it names where there was memory for them.
-fn named(step: Step, names: Result<Vec<usize>, AllocError>) -> Result<NamedStep, AllocError>
+fn step_with_names(
+    step: Step,
+    names: Result<Vec<usize>, AllocError>,
+) -> Result<NamedStep, AllocError>
     ensures { (a b : ℕ) (old : Step)
         → IfOk names (λ ns. IsRemembered a b ns.items old step)
         → IfOk result (λ named. IsRemembered a b named.names.items old named.step) }
@@ -137,53 +140,53 @@ fn named_step(alloc: Global, places: &mut usize, step: Step) -> Result<NamedStep
         IsRemembered places.old places.new named.names.items step named.step) }
 {
     match step {
-        Step::Constant(value) => named(Step::Constant(value), Ok(Vec::new(alloc))),
-        Step::Refused(cause) => named(Step::Refused(cause), Ok(Vec::new(alloc))),
-        Step::Relvar(name) => named(Step::Relvar(name), Ok(Vec::new(alloc))),
+        Step::Constant(value) => step_with_names(Step::Constant(value), Ok(Vec::new(alloc))),
+        Step::Refused(cause) => step_with_names(Step::Refused(cause), Ok(Vec::new(alloc))),
+        Step::Relvar(name) => step_with_names(Step::Relvar(name), Ok(Vec::new(alloc))),
         Step::Attribute { slot, place } => {
-            named(Step::Attribute { slot, place }, one(alloc, slot))
+            step_with_names(Step::Attribute { slot, place }, one(alloc, slot))
         }
         Step::LookUp(relvar, key, mut operand) => {
             let names = remember(alloc, places, &mut operand);
-            named(Step::LookUp(relvar, key, operand), names)
+            step_with_names(Step::LookUp(relvar, key, operand), names)
         }
         Step::Monadic(op, mut operand) => {
             let names = remember(alloc, places, &mut operand);
-            named(Step::Monadic(op, operand), names)
+            step_with_names(Step::Monadic(op, operand), names)
         }
         Step::Dyadic(mut left, op, mut right) => {
             let names = both(alloc, places, &mut left, &mut right);
-            named(Step::Dyadic(left, op, right), names)
+            step_with_names(Step::Dyadic(left, op, right), names)
         }
         Step::Select(selector, mut parts) => {
             let names = all(alloc, places, &mut parts);
-            named(Step::Select(selector, parts), names)
+            step_with_names(Step::Select(selector, parts), names)
         }
         Step::Restriction(mut operand, slot, mut body, origin) => {
             let names = inside(alloc, places, &mut operand, slot, &mut body);
-            named(Step::Restriction(operand, slot, body, origin), names)
+            step_with_names(Step::Restriction(operand, slot, body, origin), names)
         }
         Step::Extend(mut operand, columns, slot, mut values) => {
             let names = all_inside(alloc, places, &mut operand, slot, &mut values);
-            named(Step::Extend(operand, columns, slot, values), names)
+            step_with_names(Step::Extend(operand, columns, slot, values), names)
         }
         Step::Aggregate(op, mut operand, slot, mut body) => {
             let names = inside(alloc, places, &mut operand, slot, &mut body);
-            named(Step::Aggregate(op, operand, slot, body), names)
+            step_with_names(Step::Aggregate(op, operand, slot, body), names)
         }
         Step::SummarizePer(mut operand, mut per, columns, aggregates, slot, mut values) => {
             let names = all_inside_both(alloc, places, &mut operand, &mut per, slot, &mut values);
             let step = Step::SummarizePer(operand, per, columns, aggregates, slot, values);
-            named(step, names)
+            step_with_names(step, names)
         }
         Step::SummarizeBy(mut operand, by, columns, aggregates, slot, mut values) => {
             let names = all_inside(alloc, places, &mut operand, slot, &mut values);
             let step = Step::SummarizeBy(operand, by, columns, aggregates, slot, values);
-            named(step, names)
+            step_with_names(step, names)
         }
         Step::If(mut condition, mut then, mut other) => {
             let names = three(alloc, places, &mut condition, &mut then, &mut other);
-            named(Step::If(condition, then, other), names)
+            step_with_names(Step::If(condition, then, other), names)
         }
         Step::Bound {
             slot,

@@ -21,7 +21,7 @@ pub fn explain(alloc: Global, plan: &Plan) -> Result<String, AllocError> {
 }
 
 /// The first text and those of the items, with a comma between two items.
-fn listed<T, F>(alloc: Global, first: &str, items: &[T], put: F) -> Result<String, AllocError>
+fn with_commas<T, F>(alloc: Global, first: &str, items: &[T], put: F) -> Result<String, AllocError>
 where
     F: Fn(&mut String, &T) -> Result<(), AllocError>,
     requires { F.IsAlwaysCallable put }
@@ -37,7 +37,7 @@ where
 
 /// The first text and the names.
 fn listed_names(alloc: Global, first: &str, names: &[Name]) -> Result<String, AllocError> {
-    listed(alloc, first, names, |out, name| out.push_str(name.as_str()))
+    with_commas(alloc, first, names, |out, name| out.push_str(name.as_str()))
 }
 
 /// The attributes as they are listed.
@@ -157,7 +157,7 @@ impl Outline {
         aggregates: &[Agg],
         values: &[Step],
     ) -> Result<(), AllocError> {
-        let words = listed(self.alloc, "AGGREGATES ", aggregates, |out, aggregate| {
+        let words = with_commas(self.alloc, "AGGREGATES ", aggregates, |out, aggregate| {
             out.push_str(aggregate_word(*aggregate))
         })?;
         self.line(indent, &[words.as_str()])?;
@@ -172,7 +172,7 @@ impl Outline {
         columns: &[(Name, Ty)],
     ) -> Result<(), AllocError> {
         let alloc = self.alloc;
-        let names = listed(
+        let names = with_commas(
             alloc,
             word,
             columns,
@@ -207,7 +207,7 @@ impl Outline {
                 self.line(indent, &["PROJECTION ", attributes.as_str()])
             }
             Postfix::Rename(_, renamings) => {
-                let renamings = listed(alloc, "RENAME ", renamings, |out, renaming| {
+                let renamings = with_commas(alloc, "RENAME ", renamings, |out, renaming| {
                     write!(
                         out,
                         "{} AS {}",

@@ -4,9 +4,10 @@ ghost use Rattle.td_eval.specs.Worlds.{World};
 ghost use Rattle.td_plan.specs.Plans.{bound, plan_value, plan_where_bound, slots_before};
 ghost use Rattle.td_plan.specs.code.Bindings.{IsBehind, IsEntered, IsHoisted, IsMemoFrom};
 ghost use Rattle.td_plan.specs.code.Bindings.{where_in_slot};
-ghost use Rattle.td_plan.specs.code.Evaluators.{AllSound, Behind, Below, KeepsInside, Puts, Ready};
-ghost use Rattle.td_plan.specs.code.Evaluators.{ReadyIn, ReadyInside, Runs, Sound, over, over_all};
-ghost use Rattle.td_plan.specs.code.Evaluators.{over_behind};
+ghost use Rattle.td_plan.specs.code.Evaluators.{IsReadyAt, IsReadyInRows, IsReadyInside};
+ghost use Rattle.td_plan.specs.code.Evaluators.{KeepsInside, PutsInSlots, Runs, RunsBelow};
+ghost use Rattle.td_plan.specs.code.Evaluators.{SoundFor, SoundForAll, SoundForBound, height_over};
+ghost use Rattle.td_plan.specs.code.Evaluators.{height_over_all, height_over_bound};
 ghost use Rattle.td_plan.specs.code.Hands.{slots_in, slots_of};
 ghost use Rattle.td_plan.specs.code.Memos.{IsMemo, IsMemoBelow, IsSound, Parts};
 ghost use Rattle.td_plan.specs.code.StepHeights.{step_height};
@@ -74,9 +75,9 @@ where
         slot: usize,
         item: &Step,
     ) -> Result<(), Fault>
-        requires below { Below A.world self.now F.pre F.post (over item.now) }
-        requires ready { ReadyIn A.world self.now rows.old.items memo.old (Sound item.now) }
-        ensures { Puts A.world self.now rows.old.items memo.old (Sound item.now)
+        requires below { RunsBelow A.world self.now F.pre F.post (height_over item.now) }
+        requires ready { IsReadyInRows A.world self.now rows.old.items memo.old (SoundFor item.now) }
+        ensures { PutsInSlots A.world self.now rows.old.items memo.old (SoundFor item.now)
             (λ ps w s. IsEntered ps w slot s (where_in_slot w s slot item.now) result
             rows.new.items memo.new) }
     {
@@ -95,9 +96,10 @@ where
         slot: usize,
         items: &[Step],
     ) -> Result<(), Fault>
-        requires below { Below A.world self.now F.pre F.post (over_all items.now) }
-        requires ready { ReadyIn A.world self.now rows.old.items memo.old (AllSound items.now) }
-        ensures { Puts A.world self.now rows.old.items memo.old (AllSound items.now)
+        requires below { RunsBelow A.world self.now F.pre F.post (height_over_all items.now) }
+        requires ready { IsReadyInRows A.world self.now rows.old.items memo.old (SoundForAll
+            items.now) }
+        ensures { PutsInSlots A.world self.now rows.old.items memo.old (SoundForAll items.now)
             (λ ps w s. IsEntered ps w slot s (plan_where_bound w s slot (steps_view items.now))
             result rows.new.items memo.new) }
     {
@@ -119,10 +121,12 @@ where
         items: &[Step],
         value: &Step,
     ) -> Result<Value, Fault>
-        requires below { Below A.world self.now F.pre F.post (over_behind items.now value.now) }
-        requires ready { ReadyIn A.world self.now rows.old.items memo.old
-            (Behind items.now value.now) }
-        ensures { Puts A.world self.now rows.old.items memo.old (Behind items.now value.now)
+        requires below { RunsBelow A.world self.now F.pre F.post (height_over_bound items.now
+            value.now) }
+        requires ready { IsReadyInRows A.world self.now rows.old.items memo.old
+            (SoundForBound items.now value.now) }
+        ensures { PutsInSlots A.world self.now rows.old.items memo.old (SoundForBound items.now
+            value.now)
             (λ ps w s. Answers (λ v. v) result (plan_where_bound w s slot (steps_view items.now)
             (λ s. plan_value w s (step_view value.now))) × IsMemoFrom ps w slot s memo.new) }
     {
@@ -141,9 +145,12 @@ where
         items: &[Step],
         value: &Step,
     ) -> Result<Value, Fault>
-        requires below { Below A.world self.now F.pre F.post (over_behind items.now value.now) }
-        requires ready { Ready A.world self.now hand.now memo.old (Behind items.now value.now) }
-        ensures { Runs A.world self.now hand.now memo.old memo.new (Behind items.now value.now)
+        requires below { RunsBelow A.world self.now F.pre F.post (height_over_bound items.now
+            value.now) }
+        requires ready { IsReadyAt A.world self.now hand.now memo.old (SoundForBound items.now
+            value.now) }
+        ensures { Runs A.world self.now hand.now memo.old memo.new (SoundForBound items.now
+            value.now)
             result (bound slot (steps_view items.now) (step_view value.now)) }
     {
         let mut rows = rows_before(self.alloc, memo, hand, slot)?;
@@ -164,10 +171,10 @@ where
         slot: usize,
         items: &[Step],
     ) -> Option<Inside>
-        requires below { Below A.world self.now F.pre F.post (over_all items.now) }
-        requires ready { ReadyInside A.world self.now inside.now memo.old (AllSound items.now) }
+        requires below { RunsBelow A.world self.now F.pre F.post (height_over_all items.now) }
+        requires ready { IsReadyInside A.world self.now inside.now memo.old (SoundForAll items.now) }
         requires order { inside.now.slot < slot }
-        ensures { KeepsInside A.world self.now inside.now memo.old memo.new (AllSound items.now)
+        ensures { KeepsInside A.world self.now inside.now memo.old memo.new (SoundForAll items.now)
             (λ w s k. IfSome result (IsBehind w inside.now slot (steps_view items.now))) }
     {
         let Ok(mut rows) = again_before(self.alloc, &inside.outer, slot) else {
@@ -194,12 +201,12 @@ where
         rows: &[Tuple],
         step: &'s Step,
     ) -> Option<Hoisted<'s>>
-        requires below { Below A.world self.now F.pre F.post (over step.now) }
-        requires ready { ReadyInside A.world self.now inside.now memo.old (Sound step.now) }
+        requires below { RunsBelow A.world self.now F.pre F.post (height_over step.now) }
+        requires ready { IsReadyInside A.world self.now inside.now memo.old (SoundFor step.now) }
         ensures height { IfSome result (λ h. step_height h.step.now ≤ step_height step.now) }
         ensures sound { (ps : Parts) → IsSound ps step.now
             → IfSome result (λ h. IsSound ps h.step.now) }
-        ensures kept { KeepsInside A.world self.now inside.now memo.old memo.new (Sound step.now)
+        ensures kept { KeepsInside A.world self.now inside.now memo.old memo.new (SoundFor step.now)
             (λ w s k. IfSome result (λ h. IsHoisted w inside.now step.now h.inside h.step.now)) }
     {
         if rows.is_empty() {

@@ -2,8 +2,8 @@
 //! it is proved by itself.
 ghost use Rattle.std.specs.Prelude.{◌≡◌};
 ghost use Rattle.td_eval.specs.Worlds.{World};
-ghost use Rattle.td_plan.specs.code.Evaluators.{AllSound, Below, KeepsFor, Ready, Runs, Sound};
-ghost use Rattle.td_plan.specs.code.Evaluators.{over, over_all};
+ghost use Rattle.td_plan.specs.code.Evaluators.{IsReadyAt, KeepsFor, Runs, RunsBelow, SoundFor};
+ghost use Rattle.td_plan.specs.code.Evaluators.{SoundForAll, height_over, height_over_all};
 ghost use Rattle.td_plan.specs.code.Runs.{step_values};
 ghost use Rattle.td_plan.specs.code.StepViews.{step_view};
 ghost use Rattle.td_tree.specs.Outcomes.{Answers, gathered};
@@ -58,9 +58,9 @@ where
         hand: &Hand<'_, '_>,
         step: &Step,
     ) -> Result<Value, Fault>
-        requires below { Below A.world self.now F.pre F.post (over step.now) }
-        requires ready { Ready A.world self.now hand.now memo.old (Sound step.now) }
-        ensures { Runs A.world self.now hand.now memo.old memo.new (Sound step.now) result
+        requires below { RunsBelow A.world self.now F.pre F.post (height_over step.now) }
+        requires ready { IsReadyAt A.world self.now hand.now memo.old (SoundFor step.now) }
+        ensures { Runs A.world self.now hand.now memo.old memo.new (SoundFor step.now) result
             (step_view step.now) }
     {
         (self.inner)(self.around, memo, hand, step)
@@ -74,9 +74,9 @@ where
         hand: &Hand<'_, '_>,
         steps: &[Step],
     ) -> Result<Vec<Value>, Fault>
-        requires below { Below A.world self.now F.pre F.post (over_all steps.now) }
-        requires ready { Ready A.world self.now hand.now memo.old (AllSound steps.now) }
-        ensures { KeepsFor A.world self.now hand.now memo.old memo.new (AllSound steps.now)
+        requires below { RunsBelow A.world self.now F.pre F.post (height_over_all steps.now) }
+        requires ready { IsReadyAt A.world self.now hand.now memo.old (SoundForAll steps.now) }
+        ensures { KeepsFor A.world self.now hand.now memo.old memo.new (SoundForAll steps.now)
             (λ w s. Answers (λ vs. vs.items) result (gathered (step_values w s steps.now))) }
     {
         let mut causes = Gathering::new();

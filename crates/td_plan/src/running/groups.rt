@@ -2,8 +2,8 @@
 ghost use Rattle.std.specs.Prelude.{map};
 ghost use Rattle.std.specs.List.{zip};
 ghost use Rattle.td_eval.specs.code.Totals.{total_of, total_view};
-ghost use Rattle.td_plan.specs.code.Evaluators.{AllSound, Below, KeepsInside, ReadyInside, Sound};
-ghost use Rattle.td_plan.specs.code.Evaluators.{over, over_all};
+ghost use Rattle.td_plan.specs.code.Evaluators.{IsReadyInside, KeepsInside, RunsBelow, SoundFor};
+ghost use Rattle.td_plan.specs.code.Evaluators.{SoundForAll, height_over, height_over_all};
 ghost use Rattle.td_plan.specs.code.Runs.{value_in, values_in};
 ghost use Rattle.td_tree.specs.Outcomes.{Answers, gathered};
 
@@ -32,9 +32,9 @@ where
         groups: &[(Tuple, Rel)],
         step: &Step,
     ) -> Result<Vec<Vec<Value>>, Fault>
-        requires below { Below A.world self.now F.pre F.post (over step.now) }
-        requires ready { ReadyInside A.world self.now inside.now memo.old (Sound step.now) }
-        ensures { KeepsInside A.world self.now inside.now memo.old memo.new (Sound step.now)
+        requires below { RunsBelow A.world self.now F.pre F.post (height_over step.now) }
+        requires ready { IsReadyInside A.world self.now inside.now memo.old (SoundFor step.now) }
+        ensures { KeepsInside A.world self.now inside.now memo.old memo.new (SoundFor step.now)
             (λ w s k. Answers (λ vss. map (λ vs. vs.items) vss.items) result (gathered (map
             (λ g. gathered (map (value_in w s k step.now) g.1.body)) groups.now))) }
     {
@@ -57,9 +57,9 @@ where
         aggregates: &[Agg],
         steps: &[Step],
     ) -> Result<Vec<(Agg, Vec<Vec<Value>>)>, Fault>
-        requires below { Below A.world self.now F.pre F.post (over_all steps.now) }
-        requires ready { ReadyInside A.world self.now inside.now memo.old (AllSound steps.now) }
-        ensures { KeepsInside A.world self.now inside.now memo.old memo.new (AllSound steps.now)
+        requires below { RunsBelow A.world self.now F.pre F.post (height_over_all steps.now) }
+        requires ready { IsReadyInside A.world self.now inside.now memo.old (SoundForAll steps.now) }
+        ensures { KeepsInside A.world self.now inside.now memo.old memo.new (SoundForAll steps.now)
             (λ w s k. Answers (λ ts. map total_view ts.items) result (gathered (map (total_of
             groups.now) (zip aggregates.now (values_in w s k steps.now))))) }
     {

@@ -4,8 +4,10 @@ ghost use Rattle.std.specs.Prelude.{◌≡◌, max, suc};
 ghost use Rattle.std.specs.List.{zip};
 ghost use Rattle.td_plan.specs.Plans.{aggregate, choice, dyadic, extend, measure, monadic};
 ghost use Rattle.td_plan.specs.Plans.{restriction, summarize_by, summarize_per, summary_of};
-ghost use Rattle.td_plan.specs.code.Evaluators.{AllSound, Below, KeepsFor, Ready, Runs, Sound, Two};
-ghost use Rattle.td_plan.specs.code.Evaluators.{With, over, over_all, over_two, over_with};
+ghost use Rattle.td_plan.specs.code.Evaluators.{IsReadyAt, KeepsFor, Runs, RunsBelow, SoundFor};
+ghost use Rattle.td_plan.specs.code.Evaluators.{SoundForAll, SoundForBoth, SoundForOneAndAll};
+ghost use Rattle.td_plan.specs.code.Evaluators.{height_over, height_over_all, height_over_both};
+ghost use Rattle.td_plan.specs.code.Evaluators.{height_over_one_and_all};
 ghost use Rattle.td_plan.specs.code.Memos.{AreSound, IsSound};
 ghost use Rattle.td_plan.specs.code.Runs.{values_in};
 ghost use Rattle.td_plan.specs.code.StepHeights.{step_height, steps_height};
@@ -56,9 +58,12 @@ where
         op: Dyadic,
         right: &Step,
     ) -> Result<Value, Fault>
-        requires below { Below A.world self.now F.pre F.post (over_two left.now right.now) }
-        requires ready { Ready A.world self.now hand.now memo.old (Two left.now right.now) }
-        ensures { Runs A.world self.now hand.now memo.old memo.new (Two left.now right.now) result
+        requires below { RunsBelow A.world self.now F.pre F.post (height_over_both left.now
+            right.now) }
+        requires ready { IsReadyAt A.world self.now hand.now memo.old (SoundForBoth left.now
+            right.now) }
+        ensures { Runs A.world self.now hand.now memo.old memo.new (SoundForBoth left.now
+            right.now) result
             (dyadic (step_view left.now) (dyadic_view op) (step_view right.now)) }
     {
         let first = self.run(memo, hand, left);
@@ -76,9 +81,11 @@ where
         consequent: &Step,
         alternative: &Step,
     ) -> Result<Value, Fault>
-        requires below { Below A.world self.now F.pre F.post (suc (max (step_height condition.now)
+        requires below { RunsBelow A.world self.now F.pre F.post (suc (max (step_height
+            condition.now)
             (max (step_height consequent.now) (step_height alternative.now)))) }
-        requires ready { Ready A.world self.now hand.now memo.old (λ ps. IsSound ps condition.now
+        requires ready { IsReadyAt A.world self.now hand.now memo.old (λ ps. IsSound ps
+            condition.now
             × IsSound ps consequent.now × IsSound ps alternative.now) }
         ensures { Runs A.world self.now hand.now memo.old memo.new (λ ps. IsSound ps condition.now
             × IsSound ps consequent.now × IsSound ps alternative.now) result (choice (step_view
@@ -101,9 +108,12 @@ where
         slot: usize,
         condition: &Step,
     ) -> Result<Value, Fault>
-        requires below { Below A.world self.now F.pre F.post (over_two operand.now condition.now) }
-        requires ready { Ready A.world self.now hand.now memo.old (Two operand.now condition.now) }
-        ensures { Runs A.world self.now hand.now memo.old memo.new (Two operand.now condition.now)
+        requires below { RunsBelow A.world self.now F.pre F.post (height_over_both operand.now
+            condition.now) }
+        requires ready { IsReadyAt A.world self.now hand.now memo.old (SoundForBoth operand.now
+            condition.now) }
+        ensures { Runs A.world self.now hand.now memo.old memo.new (SoundForBoth operand.now
+            condition.now)
             result (restriction (step_view operand.now) slot (step_view condition.now)) }
     {
         let operand = self.run(memo, hand, operand)?;
@@ -124,9 +134,12 @@ where
         slot: usize,
         condition: &Step,
     ) -> Result<Value, Fault>
-        requires below { Below A.world self.now F.pre F.post (over_two operand.now condition.now) }
-        requires ready { Ready A.world self.now hand.now memo.old (Two operand.now condition.now) }
-        ensures { Runs A.world self.now hand.now memo.old memo.new (Two operand.now condition.now)
+        requires below { RunsBelow A.world self.now F.pre F.post (height_over_both operand.now
+            condition.now) }
+        requires ready { IsReadyAt A.world self.now hand.now memo.old (SoundForBoth operand.now
+            condition.now) }
+        ensures { Runs A.world self.now hand.now memo.old memo.new (SoundForBoth operand.now
+            condition.now)
             result (monadic (measure op) (restriction (step_view operand.now) slot (step_view
             condition.now))) }
     {
@@ -146,9 +159,9 @@ where
         op: Measure,
         operand: &Step,
     ) -> Result<Value, Fault>
-        requires below { Below A.world self.now F.pre F.post (over operand.now) }
-        requires ready { Ready A.world self.now hand.now memo.old (Sound operand.now) }
-        ensures { Runs A.world self.now hand.now memo.old memo.new (Sound operand.now) result
+        requires below { RunsBelow A.world self.now F.pre F.post (height_over operand.now) }
+        requires ready { IsReadyAt A.world self.now hand.now memo.old (SoundFor operand.now) }
+        ensures { Runs A.world self.now hand.now memo.old memo.new (SoundFor operand.now) result
             (monadic (measure op) (step_view operand.now)) }
     {
         match operand {
@@ -170,9 +183,12 @@ where
         slot: usize,
         value: &Step,
     ) -> Result<Value, Fault>
-        requires below { Below A.world self.now F.pre F.post (over_two operand.now value.now) }
-        requires ready { Ready A.world self.now hand.now memo.old (Two operand.now value.now) }
-        ensures { Runs A.world self.now hand.now memo.old memo.new (Two operand.now value.now)
+        requires below { RunsBelow A.world self.now F.pre F.post (height_over_both operand.now
+            value.now) }
+        requires ready { IsReadyAt A.world self.now hand.now memo.old (SoundForBoth operand.now
+            value.now) }
+        ensures { Runs A.world self.now hand.now memo.old memo.new (SoundForBoth operand.now
+            value.now)
             result (aggregate op (step_view operand.now) slot (step_view value.now)) }
     {
         let operand = self.run(memo, hand, operand)?;
@@ -192,9 +208,12 @@ where
         slot: usize,
         values: &[Step],
     ) -> Result<Value, Fault>
-        requires below { Below A.world self.now F.pre F.post (over_with operand.now values.now) }
-        requires ready { Ready A.world self.now hand.now memo.old (With operand.now values.now) }
-        ensures { Runs A.world self.now hand.now memo.old memo.new (With operand.now values.now)
+        requires below { RunsBelow A.world self.now F.pre F.post (height_over_one_and_all
+            operand.now values.now) }
+        requires ready { IsReadyAt A.world self.now hand.now memo.old (SoundForOneAndAll
+            operand.now values.now) }
+        ensures { Runs A.world self.now hand.now memo.old memo.new (SoundForOneAndAll operand.now
+            values.now)
             result (extend (step_view operand.now) (pairs_view attributes.now) slot (steps_view
             values.now)) }
     {
@@ -220,9 +239,11 @@ where
         per: &Value,
         items: &Summands<'_>,
     ) -> Result<Value, Fault>
-        requires below { Below A.world self.now F.pre F.post (over_all items.now.values.now) }
-        requires ready { Ready A.world self.now hand.now memo.old (AllSound items.now.values.now) }
-        ensures { KeepsFor A.world self.now hand.now memo.old memo.new (AllSound
+        requires below { RunsBelow A.world self.now F.pre F.post (height_over_all
+            items.now.values.now) }
+        requires ready { IsReadyAt A.world self.now hand.now memo.old (SoundForAll
+            items.now.values.now) }
+        ensures { KeepsFor A.world self.now hand.now memo.old memo.new (SoundForAll
             items.now.values.now) (λ w s. Answers (λ v. v) result (summary_of (pairs_view
             items.now.attributes.now) (zip items.now.aggregates.now (values_in w s items.now.slot
             items.now.values.now)) operand.now per.now)) }
@@ -247,9 +268,9 @@ where
         per: &Step,
         items: &Summands<'_>,
     ) -> Result<Value, Fault>
-        requires below { Below A.world self.now F.pre F.post (suc (max (max (step_height
+        requires below { RunsBelow A.world self.now F.pre F.post (suc (max (max (step_height
             operand.now) (step_height per.now)) (steps_height items.now.values.now))) }
-        requires ready { Ready A.world self.now hand.now memo.old (λ ps. IsSound ps operand.now
+        requires ready { IsReadyAt A.world self.now hand.now memo.old (λ ps. IsSound ps operand.now
             × IsSound ps per.now × AreSound ps items.now.values.now) }
         ensures { Runs A.world self.now hand.now memo.old memo.new (λ ps. IsSound ps operand.now
             × IsSound ps per.now × AreSound ps items.now.values.now) result (summarize_per
@@ -272,11 +293,12 @@ where
         by: &Attributes,
         items: &Summands<'_>,
     ) -> Result<Value, Fault>
-        requires below { Below A.world self.now F.pre F.post (over_with operand.now
+        requires below { RunsBelow A.world self.now F.pre F.post (height_over_one_and_all
+            operand.now
             items.now.values.now) }
-        requires ready { Ready A.world self.now hand.now memo.old (With operand.now
+        requires ready { IsReadyAt A.world self.now hand.now memo.old (SoundForOneAndAll operand.now
             items.now.values.now) }
-        ensures { Runs A.world self.now hand.now memo.old memo.new (With operand.now
+        ensures { Runs A.world self.now hand.now memo.old memo.new (SoundForOneAndAll operand.now
             items.now.values.now) result (summarize_by (step_view operand.now) (attributes_view
             by.now) (pairs_view items.now.attributes.now) items.now.aggregates.now items.now.slot
             (steps_view items.now.values.now)) }

@@ -7,7 +7,7 @@ ghost use Rattle.td_algebra.specs.code.Layouts.{numbered_sources};
 ghost use Rattle.td_eval.specs.OperatorValues.{comparison_value};
 ghost use Rattle.td_eval.specs.Worlds.{World};
 ghost use Rattle.td_plan.specs.code.Hands.{slots_of};
-ghost use Rattle.td_plan.specs.code.Memberships.{AreBefore, AreMemberships, IsPutInHand};
+ghost use Rattle.td_plan.specs.code.Memberships.{AreAllBelow, AreMemberships, IsPutInHand};
 ghost use Rattle.td_plan.specs.code.Memberships.{tuple_inside};
 ghost use Rattle.td_plan.specs.code.Memos.{AreSound, IsMemo, IsSound, Parts};
 ghost use Rattle.td_plan.specs.code.Quick.{AreInRows, AreQuick, IsQuick};
@@ -124,7 +124,7 @@ fn tuples_of(batch: &Batch<'_>, names: &[Name], parts: &[Step], layout: &Layout)
 }
 
 /// The tuples, hashed.
-fn hashed(alloc: Global, rows: &[Tuple]) -> Result<HashSet<Tuple>, AllocError>
+fn hashed_tuples(alloc: Global, rows: &[Tuple]) -> Result<HashSet<Tuple>, AllocError>
     ensures { IfOk result (λ set. (t : Tuple)
         → contains (eq_by_cmp tuple_cmp) set t ≡ has tuple_cmp t rows.now) }
 {
@@ -145,7 +145,7 @@ fn members_among(alloc: Global, tuples: &[Tuple], rel: &Rel) -> Found<bool>
     if !have_heading(tuples, rel.heading()) {
         return Ok(None);
     }
-    let members = hashed(alloc, rel.rows())?;
+    let members = hashed_tuples(alloc, rel.rows())?;
     let mut truths = Vec::with_capacity(alloc, tuples.len())?;
     for tuple in tuples {
         truths.push(members.contains(tuple))?;
@@ -179,7 +179,7 @@ fn place_from(members: &[i64], place: usize, number: i64) -> usize {
 #[inline]
 fn is_behind(members: &[i64], place: usize, number: i64) -> bool
     requires { IsStrictlySortedBy int_cmp members.now }
-    ensures { IsTrue result → AreBefore members.now place number }
+    ensures { IsTrue result → AreAllBelow members.now place number }
 {
     if place == 0 {
         return true;
@@ -210,7 +210,7 @@ fn told_at(members: &[i64], place: usize, number: i64) -> Option<bool>
 }
 
 /// Which of the numbers are among members that ascend, if the numbers do so too.
-fn merged(alloc: Global, numbers: &[i64], members: &[i64]) -> Found<bool>
+fn merged_memberships(alloc: Global, numbers: &[i64], members: &[i64]) -> Found<bool>
     requires { IsStrictlySortedBy int_cmp members.now }
     ensures { IfOk result (λ found. IfSome found (λ truths.
         truths.items ≡ map (λ z. has int_cmp z members.now) numbers.now)) }
@@ -233,7 +233,7 @@ fn numbers_among(alloc: Global, numbers: &[i64], members: &[i64]) -> Result<Vec<
     ensures { IfOk result (λ truths.
         truths.items ≡ map (λ z. has int_cmp z members.now) numbers.now) }
 {
-    if let Some(truths) = merged(alloc, numbers, members)? {
+    if let Some(truths) = merged_memberships(alloc, numbers, members)? {
         return Ok(truths);
     }
     let members = hashed_numbers(alloc, members)?;

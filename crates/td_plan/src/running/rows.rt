@@ -3,8 +3,9 @@ ghost use Rattle.std.specs.Prelude.{◌≡◌, length};
 ghost use Rattle.td_algebra.specs.Columns.{columns_view};
 ghost use Rattle.td_eval.specs.code.NewColumns.{named_columns};
 ghost use Rattle.td_eval.specs.OperatorValues.{column_values, truth_value};
-ghost use Rattle.td_plan.specs.code.Evaluators.{AllSound, Below, KeepsFor, KeepsInside, Ready};
-ghost use Rattle.td_plan.specs.code.Evaluators.{ReadyInside, Runs, Sound, over, over_all};
+ghost use Rattle.td_plan.specs.code.Evaluators.{IsReadyAt, IsReadyInside, KeepsFor, KeepsInside};
+ghost use Rattle.td_plan.specs.code.Evaluators.{Runs, RunsBelow, SoundFor, SoundForAll};
+ghost use Rattle.td_plan.specs.code.Evaluators.{height_over, height_over_all};
 ghost use Rattle.td_plan.specs.code.Runs.{all_in, step_value, truths_in, value_in, values_in};
 ghost use Rattle.td_plan.specs.code.StepViews.{step_view};
 ghost use Rattle.td_tree.specs.Outcomes.{Answers, gathered};
@@ -32,9 +33,9 @@ where
     /// The value of a step in a tuple. A number is looked for without causes first.
     #[inline]
     fn value_with(&self, memo: &mut Memo, hand: &Hand<'_, '_>, step: &Step) -> Result<Value, Fault>
-        requires below { Below A.world self.now F.pre F.post (over step.now) }
-        requires ready { Ready A.world self.now hand.now memo.old (Sound step.now) }
-        ensures { Runs A.world self.now hand.now memo.old memo.new (Sound step.now) result
+        requires below { RunsBelow A.world self.now F.pre F.post (height_over step.now) }
+        requires ready { IsReadyAt A.world self.now hand.now memo.old (SoundFor step.now) }
+        ensures { Runs A.world self.now hand.now memo.old memo.new (SoundFor step.now) result
             (step_view step.now) }
     {
         match quick_number(memo, hand, step) {
@@ -51,9 +52,9 @@ where
         hand: &Hand<'_, '_>,
         condition: &Step,
     ) -> Result<bool, Fault>
-        requires below { Below A.world self.now F.pre F.post (over condition.now) }
-        requires ready { Ready A.world self.now hand.now memo.old (Sound condition.now) }
-        ensures { KeepsFor A.world self.now hand.now memo.old memo.new (Sound condition.now)
+        requires below { RunsBelow A.world self.now F.pre F.post (height_over condition.now) }
+        requires ready { IsReadyAt A.world self.now hand.now memo.old (SoundFor condition.now) }
+        ensures { KeepsFor A.world self.now hand.now memo.old memo.new (SoundFor condition.now)
             (λ w s. Answers (λ b. b) result (truth_value (step_value w s condition.now))) }
     {
         match quick_truth(memo, hand, condition) {
@@ -71,9 +72,9 @@ where
         row: &Tuple,
         step: &Step,
     ) -> Result<Value, Fault>
-        requires below { Below A.world self.now F.pre F.post (over step.now) }
-        requires ready { ReadyInside A.world self.now inside.now memo.old (Sound step.now) }
-        ensures { KeepsInside A.world self.now inside.now memo.old memo.new (Sound step.now)
+        requires below { RunsBelow A.world self.now F.pre F.post (height_over step.now) }
+        requires ready { IsReadyInside A.world self.now inside.now memo.old (SoundFor step.now) }
+        ensures { KeepsInside A.world self.now inside.now memo.old memo.new (SoundFor step.now)
             (λ w s k. Answers (λ v. v) result (value_in w s k step.now row.now)) }
     {
         let hand = hand_inside(inside, row);
@@ -92,9 +93,10 @@ where
         row: &Tuple,
         condition: &Step,
     ) -> Result<bool, Fault>
-        requires below { Below A.world self.now F.pre F.post (over condition.now) }
-        requires ready { ReadyInside A.world self.now inside.now memo.old (Sound condition.now) }
-        ensures { KeepsInside A.world self.now inside.now memo.old memo.new (Sound condition.now)
+        requires below { RunsBelow A.world self.now F.pre F.post (height_over condition.now) }
+        requires ready { IsReadyInside A.world self.now inside.now memo.old (SoundFor
+            condition.now) }
+        ensures { KeepsInside A.world self.now inside.now memo.old memo.new (SoundFor condition.now)
             (λ w s k. Answers (λ b. b) result (truth_value (value_in w s k condition.now
             row.now))) }
     {
@@ -113,9 +115,10 @@ where
         rows: &[Tuple],
         condition: &Step,
     ) -> Result<Vec<bool>, Fault>
-        requires below { Below A.world self.now F.pre F.post (over condition.now) }
-        requires ready { ReadyInside A.world self.now inside.now memo.old (Sound condition.now) }
-        ensures { KeepsInside A.world self.now inside.now memo.old memo.new (Sound condition.now)
+        requires below { RunsBelow A.world self.now F.pre F.post (height_over condition.now) }
+        requires ready { IsReadyInside A.world self.now inside.now memo.old (SoundFor
+            condition.now) }
+        ensures { KeepsInside A.world self.now inside.now memo.old memo.new (SoundFor condition.now)
             (λ w s k. Answers (λ m. m.items) result (truths_in w s k condition.now rows.now)) }
     {
         let mut causes = Gathering::new();
@@ -136,9 +139,10 @@ where
         rows: &[Tuple],
         condition: &Step,
     ) -> Result<Vec<bool>, Fault>
-        requires below { Below A.world self.now F.pre F.post (over condition.now) }
-        requires ready { ReadyInside A.world self.now inside.now memo.old (Sound condition.now) }
-        ensures { KeepsInside A.world self.now inside.now memo.old memo.new (Sound condition.now)
+        requires below { RunsBelow A.world self.now F.pre F.post (height_over condition.now) }
+        requires ready { IsReadyInside A.world self.now inside.now memo.old (SoundFor
+            condition.now) }
+        ensures { KeepsInside A.world self.now inside.now memo.old memo.new (SoundFor condition.now)
             (λ w s k. Answers (λ m. m.items) result (truths_in w s k condition.now rows.now)) }
     {
         if rows.len() < FEWEST {
@@ -168,9 +172,10 @@ where
         rows: &[Tuple],
         condition: &Step,
     ) -> Result<Vec<bool>, Fault>
-        requires below { Below A.world self.now F.pre F.post (over condition.now) }
-        requires ready { ReadyInside A.world self.now inside.now memo.old (Sound condition.now) }
-        ensures { KeepsInside A.world self.now inside.now memo.old memo.new (Sound condition.now)
+        requires below { RunsBelow A.world self.now F.pre F.post (height_over condition.now) }
+        requires ready { IsReadyInside A.world self.now inside.now memo.old (SoundFor
+            condition.now) }
+        ensures { KeepsInside A.world self.now inside.now memo.old memo.new (SoundFor condition.now)
             (λ w s k. Answers (λ m. m.items) result (truths_in w s k condition.now rows.now)) }
     {
         match self.hoisted_loop(memo, inside, rows, condition) {
@@ -188,9 +193,9 @@ where
         rows: &[Tuple],
         step: &Step,
     ) -> Result<Vec<Value>, Fault>
-        requires below { Below A.world self.now F.pre F.post (over step.now) }
-        requires ready { ReadyInside A.world self.now inside.now memo.old (Sound step.now) }
-        ensures { KeepsInside A.world self.now inside.now memo.old memo.new (Sound step.now)
+        requires below { RunsBelow A.world self.now F.pre F.post (height_over step.now) }
+        requires ready { IsReadyInside A.world self.now inside.now memo.old (SoundFor step.now) }
+        ensures { KeepsInside A.world self.now inside.now memo.old memo.new (SoundFor step.now)
             (λ w s k. Answers (λ vs. vs.items) result (all_in w s k step.now rows.now)) }
     {
         let mut causes = Gathering::new();
@@ -211,9 +216,9 @@ where
         rows: &[Tuple],
         step: &Step,
     ) -> Result<Vec<Value>, Fault>
-        requires below { Below A.world self.now F.pre F.post (over step.now) }
-        requires ready { ReadyInside A.world self.now inside.now memo.old (Sound step.now) }
-        ensures { KeepsInside A.world self.now inside.now memo.old memo.new (Sound step.now)
+        requires below { RunsBelow A.world self.now F.pre F.post (height_over step.now) }
+        requires ready { IsReadyInside A.world self.now inside.now memo.old (SoundFor step.now) }
+        ensures { KeepsInside A.world self.now inside.now memo.old memo.new (SoundFor step.now)
             (λ w s k. Answers (λ vs. vs.items) result (all_in w s k step.now rows.now)) }
     {
         match self.hoisted_loop(memo, inside, rows, step) {
@@ -234,9 +239,9 @@ where
         ty: &Ty,
         step: &Step,
     ) -> Result<Vec<Value>, Fault>
-        requires below { Below A.world self.now F.pre F.post (over step.now) }
-        requires ready { ReadyInside A.world self.now inside.now memo.old (Sound step.now) }
-        ensures { KeepsInside A.world self.now inside.now memo.old memo.new (Sound step.now)
+        requires below { RunsBelow A.world self.now F.pre F.post (height_over step.now) }
+        requires ready { IsReadyInside A.world self.now inside.now memo.old (SoundFor step.now) }
+        ensures { KeepsInside A.world self.now inside.now memo.old memo.new (SoundFor step.now)
             (λ w s k. Answers (λ vs. vs.items) result (column_values (type_view ty.now) (value_in w
             s k step.now) rows.now)) }
     {
@@ -260,9 +265,9 @@ where
         ty: &Ty,
         step: &Step,
     ) -> Result<Vec<Value>, Fault>
-        requires below { Below A.world self.now F.pre F.post (over step.now) }
-        requires ready { ReadyInside A.world self.now inside.now memo.old (Sound step.now) }
-        ensures { KeepsInside A.world self.now inside.now memo.old memo.new (Sound step.now)
+        requires below { RunsBelow A.world self.now F.pre F.post (height_over step.now) }
+        requires ready { IsReadyInside A.world self.now inside.now memo.old (SoundFor step.now) }
+        ensures { KeepsInside A.world self.now inside.now memo.old memo.new (SoundFor step.now)
             (λ w s k. Answers (λ vs. vs.items) result (column_values (type_view ty.now) (value_in w
             s k step.now) rows.now)) }
     {
@@ -282,10 +287,10 @@ where
         attributes: &[(Name, Ty)],
         steps: &[Step],
     ) -> Result<Vec<(Name, Column)>, Fault>
-        requires below { Below A.world self.now F.pre F.post (over_all steps.now) }
-        requires ready { ReadyInside A.world self.now inside.now memo.old (AllSound steps.now) }
+        requires below { RunsBelow A.world self.now F.pre F.post (height_over_all steps.now) }
+        requires ready { IsReadyInside A.world self.now inside.now memo.old (SoundForAll steps.now) }
         requires lengths { length attributes.now ≡ length steps.now }
-        ensures { KeepsInside A.world self.now inside.now memo.old memo.new (AllSound steps.now)
+        ensures { KeepsInside A.world self.now inside.now memo.old memo.new (SoundForAll steps.now)
             (λ w s k. Answers (λ cs. columns_view cs.items) result (gathered (named_columns
             (pairs_view attributes.now) (values_in w s k steps.now) rows.now))) }
     {

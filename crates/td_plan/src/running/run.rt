@@ -1,5 +1,5 @@
 //! The value of a step.
-ghost use Rattle.td_plan.specs.code.Evaluators.{Below, Ready, Runs, over};
+ghost use Rattle.td_plan.specs.code.Evaluators.{IsReadyAt, Runs, RunsBelow, height_over};
 ghost use Rattle.td_plan.specs.code.Hands.{AreSurroundings, slots_of, world_around};
 ghost use Rattle.td_plan.specs.code.Memos.{IsPart, IsReady, IsSound, Keeps};
 ghost use Rattle.td_plan.specs.code.Runs.{step_value};
@@ -32,8 +32,8 @@ where
         reach: usize,
         part: &Step,
     ) -> Result<Value, Fault>
-        requires below { Below A.world self.now F.pre F.post (over part.now) }
-        requires ready { Ready A.world self.now hand.now memo.old (λ ps. IsPart ps place reach
+        requires below { RunsBelow A.world self.now F.pre F.post (height_over part.now) }
+        requires ready { IsReadyAt A.world self.now hand.now memo.old (λ ps. IsPart ps place reach
             (step_view part.now) × IsSound ps part.now) }
         ensures { Runs A.world self.now hand.now memo.old memo.new (λ ps. IsPart ps place reach
             (step_view part.now) × IsSound ps part.now) result (step_view part.now) }

@@ -29,16 +29,16 @@ returns-in_ok-adding-clause-answer g c =
     let r = so_far g.B.Body.relation t in
     let x = tree_view c.args.source.now in
     let add = c.in_ok-add.add in
-    let apart : is_disjoint r add ≡ true = other_way r add ∙ sym c.has_all.ensures ∙ c.if-has_all.true in
+    let apart : is_disjoint r add ≡ true = other_way r add ∙ sym c.are_members.ensures ∙ c.if-are_members.true in
     put_apart_is t.catalog.now.database t.name.now r x
     ∙ put_apart r add (relation_for r (world_for g.B.Body.relation t) x) c.in_ok-add.ensures.answer c.in_ok-adding.field-0 apart c.in_ok-adding.ensures.out c.in_ok-adding.ensures.add
 
-pub returns-else-has_all-clause-answer : goal.returns-else-has_all-clause-answer
-returns-else-has_all-clause-answer g c =
+pub returns-else-are_members-clause-answer : goal.returns-else-are_members-clause-answer
+returns-else-are_members-clause-answer g c =
     let t = c.args.self.now in
     let r = so_far g.B.Body.relation t in
     let x = tree_view c.args.source.now in
     let add = c.in_ok-add.add in
-    let overlap : is_disjoint r add ≡ false = other_way r add ∙ sym c.has_all.ensures ∙ c.if-has_all.false in
+    let overlap : is_disjoint r add ≡ false = other_way r add ∙ sym c.are_members.ensures ∙ c.if-are_members.false in
     ap named_cause (put_apart_is t.catalog.now.database t.name.now r x
     ∙ not_apart r add (relation_for r (world_for g.B.Body.relation t) x) c.in_ok-add.ensures.answer overlap)

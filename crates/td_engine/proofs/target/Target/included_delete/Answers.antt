@@ -29,17 +29,17 @@ returns-in_ok-taking-clause-answer g c =
     let r = so_far g.B.Body.relation t in
     let x = tree_view c.args.source.now in
     let out = c.in_ok-out.out in
-    let within : is_subset out r ≡ true = sym c.has_all.ensures ∙ c.if-has_all.true in
+    let within : is_subset out r ≡ true = sym c.are_members.ensures ∙ c.if-are_members.true in
     taken_out_is t.catalog.now.database t.name.now r x
     ∙ taken_out r out (relation_for r (world_for g.B.Body.relation t) x) c.in_ok-out.ensures.answer c.in_ok-taking.field-0 c.requires.target.gift.relation within
     c.in_ok-taking.ensures.out c.in_ok-taking.ensures.add
 
-pub returns-else-has_all-clause-answer : goal.returns-else-has_all-clause-answer
-returns-else-has_all-clause-answer g c =
+pub returns-else-are_members-clause-answer : goal.returns-else-are_members-clause-answer
+returns-else-are_members-clause-answer g c =
     let t = c.args.self.now in
     let r = so_far g.B.Body.relation t in
     let x = tree_view c.args.source.now in
     let out = c.in_ok-out.out in
-    let without : is_subset out r ≡ false = sym c.has_all.ensures ∙ c.if-has_all.false in
+    let without : is_subset out r ≡ false = sym c.are_members.ensures ∙ c.if-are_members.false in
     ap named_cause (taken_out_is t.catalog.now.database t.name.now r x
     ∙ not_within r out (relation_for r (world_for g.B.Body.relation t) x) c.in_ok-out.ensures.answer without)

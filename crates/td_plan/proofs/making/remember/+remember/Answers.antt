@@ -148,17 +148,17 @@ all_inside_both-returns t c =
     c.joined.ensures.first c.joined.ensures.second
 
 pub named_step-returns-in-Constant : goal.named_step-returns-in-Constant
-named_step-returns-in-Constant t c = c.named.ensures _ _ c.args.step (leaf_remembered c.args.places.now c.new.result.items c.args.step _ (ap step_view
+named_step-returns-in-Constant t c = c.step_with_names.ensures _ _ c.args.step (leaf_remembered c.args.places.now c.new.result.items c.args.step _ (ap step_view
     (sym c.in-Constant.is))
     (λ w s t agree. rw (ap step_view c.in-Constant.is) refl) (λ ps. tt))
 
 pub named_step-returns-in-Refused : goal.named_step-returns-in-Refused
-named_step-returns-in-Refused t c = c.named-in-Refused.ensures _ _ c.args.step
+named_step-returns-in-Refused t c = c.step_with_names-in-Refused.ensures _ _ c.args.step
     (leaf_remembered c.args.places.now c.new-in-Refused.result.items c.args.step _ (ap step_view (sym c.in-Refused.is))
     (λ w s t agree. rw (ap step_view c.in-Refused.is) refl) (λ ps. tt))
 
 pub named_step-returns-in-Relvar : goal.named_step-returns-in-Relvar
-named_step-returns-in-Relvar t c = c.named-in-Relvar.ensures _ _ c.args.step (leaf_remembered c.args.places.now c.new-in-Relvar.result.items c.args.step _
+named_step-returns-in-Relvar t c = c.step_with_names-in-Relvar.ensures _ _ c.args.step (leaf_remembered c.args.places.now c.new-in-Relvar.result.items c.args.step _
     (ap step_view (sym c.in-Relvar.is))
     (λ w s t agree. rw (ap step_view c.in-Relvar.is) refl) (λ ps. tt))
 
@@ -166,14 +166,14 @@ pub named_step-returns-in-Attribute : goal.named_step-returns-in-Attribute
 named_step-returns-in-Attribute t c =
     let k = c.in-Attribute.slot in
     let view = ap step_view (sym c.in-Attribute.is) in
-    c.named-in-Attribute.ensures _ _ c.args.step (IfOk-weaker c.one.result _ _ (λ result h.
+    c.step_with_names-in-Attribute.ensures _ _ c.args.step (IfOk-weaker c.one.result _ _ (λ result h.
     leaf_remembered c.args.places.now result.items c.args.step _ view
     (subst (λ ns. IsOn ns (step_view c.args.step)) (sym h) (subst (IsOn (k ∷ [])) view (attribute_on k c.in-Attribute.place))) (λ ps. tt)) c.one.ensures)
 
 pub named_step-returns-in-LookUp : goal.named_step-returns-in-LookUp
 named_step-returns-in-LookUp t c =
     let key = c.in-LookUp.key.items in
-    c.named-in-LookUp.ensures _ _ c.args.step (IfOk-weaker c.remember-names.result _ _ (λ result h.
+    c.step_with_names-in-LookUp.ensures _ _ c.args.step (IfOk-weaker c.remember-names.result _ _ (λ result h.
     let names = result.items in
     one_remembered (plans.look_up c.in-LookUp.relvar key) _ _ names (look_up_on names c.in-LookUp.relvar key) _ _ _ _ h
     (ap step_view c.in-LookUp.is ∙ (λ i. plans.look_up c.in-LookUp.relvar key (step_view (sym c.deref_mut.ensures.value i)))) refl
@@ -182,7 +182,7 @@ named_step-returns-in-LookUp t c =
 pub named_step-returns-in-Monadic : goal.named_step-returns-in-Monadic
 named_step-returns-in-Monadic t c =
     let op = monadic_view c.in-Monadic.op in
-    c.named-in-Monadic.ensures _ _ c.args.step (IfOk-weaker c.remember-names-in-Monadic.result _ _ (λ result h.
+    c.step_with_names-in-Monadic.ensures _ _ c.args.step (IfOk-weaker c.remember-names-in-Monadic.result _ _ (λ result h.
     let names = result.items in
     one_remembered (plans.monadic op) _ _ names (monadic_on names op) _ _ _ _ h
     (ap step_view c.in-Monadic.is ∙ (λ i. plans.monadic op (step_view (sym c.deref_mut-in-Monadic.ensures.value i)))) refl
@@ -191,7 +191,7 @@ named_step-returns-in-Monadic t c =
 pub named_step-returns-in-Dyadic : goal.named_step-returns-in-Dyadic
 named_step-returns-in-Dyadic t c =
     let op = dyadic_view c.in-Dyadic.op in
-    c.named-in-Dyadic.ensures _ _ c.args.step (IfOk-weaker c.both-names.result _ _ (λ result h.
+    c.step_with_names-in-Dyadic.ensures _ _ c.args.step (IfOk-weaker c.both-names.result _ _ (λ result h.
     let names = result.items in
     two_remembered (λ p q. plans.dyadic p op q) (λ x y. AreAmong x names × AreAmong y names) _ _ names
     (λ x y p q among f g. dyadic_on names p op q (on_more x names p among.0 f) (on_more y names q among.1 g)) _ _ _ _ _ _ h
@@ -200,7 +200,7 @@ named_step-returns-in-Dyadic t c =
 
 pub named_step-returns-in-If : goal.named_step-returns-in-If
 named_step-returns-in-If t c =
-    c.named-in-If.ensures _ _ c.args.step (IfOk-weaker c.three-names.result _ _ (λ result h.
+    c.step_with_names-in-If.ensures _ _ c.args.step (IfOk-weaker c.three-names.result _ _ (λ result h.
     let names = result.items in
     three_made plans.choice _ _ names (choice_on names) _ _ _ _ _ _ _ _ h
     (ap step_view c.in-If.is ∙ (λ i. plans.choice (step_view (sym c.deref_mut-in-If.ensures.value i)) (step_view
@@ -209,7 +209,7 @@ named_step-returns-in-If t c =
 pub named_step-returns-in-Select : goal.named_step-returns-in-Select
 named_step-returns-in-Select t c =
     let selector = c.in-Select.selector in
-    c.named-in-Select.ensures _ _ c.args.step (IfOk-weaker c.all-names.result _ _ (λ result h.
+    c.step_with_names-in-Select.ensures _ _ c.args.step (IfOk-weaker c.all-names.result _ _ (λ result h.
     let names = result.items in
     all_made (plans.select (selector_view selector)) _ _ names (select_on names (selector_view selector)) _ _ _ _ h
     (ap step_view c.in-Select.is ∙ select_is selector c.in-Select.parts) (select_is selector c.all-names.new.steps)
@@ -218,7 +218,7 @@ named_step-returns-in-Select t c =
 pub named_step-returns-in-Restriction : goal.named_step-returns-in-Restriction
 named_step-returns-in-Restriction t c =
     let slot = c.in-Restriction.slot in
-    c.named-in-Restriction.ensures _ _ c.args.step (IfOk-weaker c.inside-names.result _ _ (λ result h.
+    c.step_with_names-in-Restriction.ensures _ _ c.args.step (IfOk-weaker c.inside-names.result _ _ (λ result h.
     let names = result.items in
     two_remembered (λ p q. plans.restriction p slot q) (λ x y. AreAmong x names × AreAmongBut slot y names) _ _ names
     (λ x y p q among f g. restriction_on names y slot among.1 p q (on_more x names p among.0 f) g) _ _ _ _ _ _ h
@@ -229,7 +229,7 @@ pub named_step-returns-in-Aggregate : goal.named_step-returns-in-Aggregate
 named_step-returns-in-Aggregate t c =
     let slot = c.in-Aggregate.slot in
     let op = c.in-Aggregate.op in
-    c.named-in-Aggregate.ensures _ _ c.args.step (IfOk-weaker c.inside-names-in-Aggregate.result _ _ (λ result h.
+    c.step_with_names-in-Aggregate.ensures _ _ c.args.step (IfOk-weaker c.inside-names-in-Aggregate.result _ _ (λ result h.
     let names = result.items in
     two_remembered (λ p q. plans.aggregate op p slot q) (λ x y. AreAmong x names × AreAmongBut slot y names) _ _ names
     (λ x y p q among f g. aggregate_on names y slot among.1 op p q (on_more x names p among.0 f) g) _ _ _ _ _ _ h
@@ -240,7 +240,7 @@ pub named_step-returns-in-Extend : goal.named_step-returns-in-Extend
 named_step-returns-in-Extend t c =
     let slot = c.in-Extend.slot in
     let attributes = pairs_view c.in-Extend.columns.items in
-    c.named-in-Extend.ensures _ _ c.args.step (IfOk-weaker c.all_inside-names.result _ _ (λ result h.
+    c.step_with_names-in-Extend.ensures _ _ c.args.step (IfOk-weaker c.all_inside-names.result _ _ (λ result h.
     let names = result.items in
     inside_made (λ p qs. plans.extend p attributes slot qs) _ _ slot names
     (λ inner p qs among f g. extend_on names inner slot among p attributes qs f g) _ _ _ _ _ _ h
@@ -254,7 +254,7 @@ named_step-returns-in-SummarizeBy t c =
     let by = attributes_view c.in-SummarizeBy.by in
     let attributes = pairs_view c.in-SummarizeBy.columns.items in
     let aggregates = c.in-SummarizeBy.aggregates.items in
-    c.named-in-SummarizeBy.ensures _ _ c.args.step (IfOk-weaker c.all_inside-names-in-SummarizeBy.result _ _ (λ result h.
+    c.step_with_names-in-SummarizeBy.ensures _ _ c.args.step (IfOk-weaker c.all_inside-names-in-SummarizeBy.result _ _ (λ result h.
     let names = result.items in
     inside_made (λ p qs. plans.summarize_by p by attributes aggregates slot qs) _ _ slot names
     (λ inner p qs among f g. summarize_by_on names inner slot among p by attributes aggregates qs f g) _ _ _ _ _ _ h
@@ -269,7 +269,7 @@ named_step-returns-in-SummarizePer t c =
     let slot = c.in-SummarizePer.slot in
     let attributes = pairs_view c.in-SummarizePer.columns.items in
     let aggregates = c.in-SummarizePer.aggregates.items in
-    c.named-in-SummarizePer.ensures _ _ c.args.step (IfOk-weaker c.all_inside_both-names.result _ _ (λ result h.
+    c.step_with_names-in-SummarizePer.ensures _ _ c.args.step (IfOk-weaker c.all_inside_both-names.result _ _ (λ result h.
     let names = result.items in
     inside_both_made (λ p q qs. plans.summarize_per p q attributes aggregates slot qs) _ _ slot names
     (λ inner p q qs among f g h. summarize_per_on names inner slot among p q attributes aggregates qs f g h) _ _ _ _ _ _ _ _ h

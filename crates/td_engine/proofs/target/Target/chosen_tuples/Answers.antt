@@ -8,7 +8,7 @@ use Rattle.td_tree.specs.Outcomes.{Answers}
 use Rattle.td_tree.specs.code.TreeViews.{tree_view}
 use Rattle.td_tree.specs.Trees.{name, restriction}
 use Rattle.td_value.specs.Values.{Relation}
-use Rattle.td_engine.proofs.target.Target.chosen.Goals as goal
+use Rattle.td_engine.proofs.target.Target.chosen_tuples.Goals as goal
 
 pub returns-clause-answer : goal.returns-clause-answer
 returns-clause-answer g c =

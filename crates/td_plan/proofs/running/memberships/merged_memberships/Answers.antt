@@ -4,7 +4,7 @@ use Rattle.std.proofs.lemmas.List.{get_or_default, map-append, take_all, take_mo
 use Rattle.std.specs.Ordering.{int_cmp}
 use mir.Syntax.{w64}
 use Rattle.td_value.specs.Sets.{has}
-use Rattle.td_plan.proofs.running.memberships.merged.Goals as goal
+use Rattle.td_plan.proofs.running.memberships.merged_memberships.Goals as goal
 
 pub loop-number-preserved : goal.loop-number-preserved
 loop-number-preserved c =

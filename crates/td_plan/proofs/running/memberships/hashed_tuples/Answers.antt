@@ -6,7 +6,7 @@ use Rattle.td_value.specs.Sets.{has}
 use Rattle.td_value.specs.Values.{tuple_cmp}
 use Rattle.td_value.specs.ValueOrder.{tuple_order_total}
 use Rattle.td_plan.proofs.Memberships.{one_hashed}
-use Rattle.td_plan.proofs.running.memberships.hashed.Goals as goal
+use Rattle.td_plan.proofs.running.memberships.hashed_tuples.Goals as goal
 
 pub loop-row-preserved : goal.loop-row-preserved
 loop-row-preserved c =
