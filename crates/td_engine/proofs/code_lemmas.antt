@@ -1,5 +1,6 @@
 pub mod AddedTuples
 pub mod Advances
+pub mod ConstraintPlanLaws
 pub mod DeletedTuples
 pub mod Environments
 pub mod Done

@@ -1,5 +1,6 @@
 pub mod AddedTuples
 pub mod Carried
+pub mod ConstraintPlans
 pub mod Gifts
 pub mod Plannable
 pub mod Restrictions

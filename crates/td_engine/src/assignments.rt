@@ -13,6 +13,7 @@ ghost use Rattle.td_engine.specs.Changes.{AreChanges, AreTypedChanges, IsChangeO
 ghost use Rattle.td_engine.specs.Changes.{IsOfHeading, changed_by, given_as};
 ghost use Rattle.td_engine.specs.Changes.{gift_over, given_in};
 ghost use Rattle.td_engine.specs.Checks.{BasesHold, base_check, first_refusal};
+ghost use Rattle.td_engine.specs.code.ConstraintPlans.{AreKeptPlans};
 ghost use Rattle.td_engine.specs.code.Gifts.{AreGifts, IsGift, gift_of, gifted_bases};
 ghost use Rattle.td_engine.specs.LeftOut.{PassesElsewhere};
 ghost use Rattle.td_engine.specs.Machine.{by_outcome, checked_effect};
@@ -37,6 +38,7 @@ use indexmap::IndexMap;
 use std::alloc::{AllocError, Global};
 use td_body::body::Body;
 use td_catalog::catalog::Catalog;
+use td_plan::plan::Plan;
 use td_tree::cause::Cause;
 use td_tree::fault::Fault;
 use td_tree::name::Name;
@@ -326,6 +328,7 @@ fn names_of_all(alloc: Global, given: &IndexMap<Name, Change>) -> Result<Vec<Nam
 fn settle_gifts<B: Body>(
     alloc: Global,
     catalog: &Catalog<B>,
+    plans: &mut Vec<Option<Plan>>,
     given: &IndexMap<Name, Change>,
 ) -> Result<(), Failure>
     requires held { BasesHold catalog.now.database }
@@ -333,14 +336,16 @@ fn settle_gifts<B: Body>(
         (reached_from (keys_of given.now.entries) catalog.now.database.virtuals)
         catalog.now.database }
     requires added { AreTestedByAdditions catalog.now.database given.now.entries }
-    ensures { Changes catalog.now.database result (checked_effect catalog.now.database) }
+    requires plans { AreKeptPlans catalog.now.database plans.old.items }
+    ensures change { Changes catalog.now.database result (checked_effect catalog.now.database) }
+    ensures plans { AreKeptPlans catalog.now.database plans.new.items }
 {
     if catalog.virtual_count() == 0 && catalog.constraint_count() == 0 {
         return Ok(());
     }
     let reached = reached_from(catalog, names_of_all(alloc, given)?)?;
     let added = added_alone(given);
-    check_after(alloc, catalog, &reached, added.as_ref())
+    check_after(alloc, catalog, plans, &reached, added.as_ref())
 }
 
 /// Lets the targets take what they were given: refused where a key does not hold then. One target
@@ -365,19 +370,23 @@ fn put_all<B: Body>(catalog: &mut Catalog<B>, given: &IndexMap<Name, Change>) ->
 fn give_all<B: Body>(
     alloc: Global,
     catalog: &mut Catalog<B>,
+    plans: &mut Vec<Option<Plan>>,
     given: &IndexMap<Name, Change>,
 ) -> Result<(), Failure>
     requires legal { IsLegal catalog.old.database }
     requires gifts { AreTypedChanges catalog.old.database given.now.entries }
     requires typed { AreGifts catalog.old.database
         (given_in catalog.old.database given.now.entries) }
+    requires plans { AreKeptPlans catalog.old.database plans.old.items }
     ensures change { Changes catalog.new.database result (checked_effect
         (with_gifts (given_in catalog.old.database given.now.entries) catalog.old.database)) }
+    ensures before { AreKeptPlans catalog.old.database plans.new.items }
+    ensures after { OnOk result (AreKeptPlans catalog.new.database plans.new.items) }
     ensures on { GoesOn catalog.old catalog.new }
 {
     catalog.reveal();
     match put_all(catalog, given) {
-        Ok(()) => settle_gifts(alloc, catalog, given),
+        Ok(()) => settle_gifts(alloc, catalog, plans, given),
         Err(failure) => Err(failure),
     }
 }
@@ -386,17 +395,21 @@ fn give_all<B: Body>(
 pub(crate) fn assign<B: Body>(
     alloc: Global,
     catalog: &mut Catalog<B>,
+    plans: &mut Vec<Option<Plan>>,
     assignments: Vec<Assignment>,
 ) -> Result<(), Failure>
     requires legal { IsLegal catalog.old.database }
     requires admitted { IsAdmitted catalog.old.database
         (statement_view (Statement.Assign assignments)) }
+    requires plans { AreKeptPlans catalog.old.database plans.old.items }
     ensures change { Changes catalog.new.database result (by_outcome (assigned_database
         catalog.old.database (map assignment_view assignments.items)) checked_effect) }
+    ensures before { AreKeptPlans catalog.old.database plans.new.items }
+    ensures after { OnOk result (AreKeptPlans catalog.new.database plans.new.items) }
     ensures on { GoesOn catalog.old catalog.new }
 {
     match given_by(alloc, catalog, &assignments) {
-        Ok(given) => give_all(alloc, catalog, &given),
+        Ok(given) => give_all(alloc, catalog, plans, &given),
         Err(fault) => Err(failure_of(fault)),
     }
 }

@@ -1,7 +1,7 @@
 //! The keys of virtual relvars and the constraints of a catalogue, after a definition or an
 //! assignment.
-ghost use Rattle.std.specs.Prelude.{◌≡◌, [], IfOk, IfSome, OnOk, map};
-ghost use Rattle.std.specs.List.{AllByRecursion};
+ghost use Rattle.std.specs.Prelude.{◌≡◌, [], IfOk, IfSome, OnOk, Some, map};
+ghost use Rattle.std.specs.List.{AllByRecursion, slice_get};
 ghost use Rattle.td_catalog.specs.code.CatalogViews.{IsEntry, entry_keys, virtual_view};
 ghost use Rattle.td_catalog.specs.Database.{Database, NamedConstraint, VirtualRelvar};
 ghost use Rattle.td_catalog.specs.Database.{named_constraint, with_constraint, with_virtual};
@@ -9,6 +9,7 @@ ghost use Rattle.td_engine.specs.Assignments.{source_world};
 ghost use Rattle.td_engine.specs.code.Carried.{Changes, Passes};
 ghost use Rattle.td_engine.specs.code.AddedTuples.{AreTestedBy, IsTestedBy};
 ghost use Rattle.td_engine.specs.Checks.{BasesHold, constraint_check, derived_check};
+ghost use Rattle.td_engine.specs.code.ConstraintPlans.{AreKeptPlans, IsKeptPlan};
 ghost use Rattle.td_engine.specs.Checks.{first_refusal};
 ghost use Rattle.td_engine.specs.Checks.{keys_hold, refusal_unless_passed, virtual_check};
 ghost use Rattle.td_engine.specs.Checks.{virtual_test};
@@ -28,7 +29,8 @@ ghost use Rattle.td_tree.specs.Trees as trees;
 ghost use Rattle.td_value.specs.Values.{Val};
 
 use crate::added::{Added, asks_of_tuples};
-use crate::evaluation::{value, value_with};
+use crate::constraint_plans::{keep_plan, plan_at};
+use crate::evaluation::{env_with, value};
 use crate::refusal::{Failure, Refusal};
 use std::alloc::{AllocError, Global};
 use td_body::body::Body;
@@ -37,6 +39,8 @@ use td_catalog::catalog::Catalog;
 use td_catalog::defining::DefiningExpression;
 use td_catalog::entry::{BaseEntry, VirtualEntry};
 use td_catalog::marked_names::MarkedNames;
+use td_plan::plan::Plan;
+use td_plan::values::value_by;
 use td_tree::cause::Cause;
 use td_tree::expression::Expr;
 use td_tree::fault::Fault;
@@ -200,14 +204,17 @@ fn check_virtuals<B: Body>(
 fn test_constraint<B: Body>(
     alloc: Global,
     catalog: &Catalog<B>,
+    plan: Option<&Plan>,
     name: &Name,
     condition: &DefiningExpression,
 ) -> Result<(), Failure>
-    requires { IsPlannable catalog.now.database condition.now }
+    requires plannable { IsPlannable catalog.now.database condition.now }
+    requires plan { IsKeptPlan catalog.now.database condition.now plan }
     ensures { Passes result (constraint_check (world_of catalog.now.database)
         (named_constraint name.now condition.now)) }
 {
-    constraint_passed(name, value(alloc, catalog, condition.tree()))
+    let env = env_with(catalog, None);
+    constraint_passed(name, value_by(alloc, &env, plan, condition.tree()))
 }
 
 /// A constraint is TRUE where the relvar's name means the tuples that came into it alone.
@@ -215,17 +222,19 @@ fn test_added<B: Body>(
     alloc: Global,
     catalog: &Catalog<B>,
     added: &Added<'_>,
+    plan: Option<&Plan>,
     name: &Name,
     condition: &DefiningExpression,
 ) -> Result<(), Failure>
-    requires { IsPlannableSource catalog.now.database added.now.relvar.now added.now.tuples.now
-        condition.now }
+    requires plannable { IsPlannableSource catalog.now.database added.now.relvar.now
+        added.now.tuples.now condition.now }
+    requires plan { IsKeptPlan catalog.now.database condition.now plan }
     ensures { Passes result (constraint_check
         (source_world catalog.now.database added.now.relvar.now added.now.tuples.now)
         (named_constraint name.now condition.now)) }
 {
-    let test = value_with(alloc, catalog, added.relvar, added.tuples, condition.tree());
-    constraint_passed(name, test)
+    let env = env_with(catalog, Some((added.relvar, added.tuples)));
+    constraint_passed(name, value_by(alloc, &env, plan, condition.tree()))
 }
 
 /// A constraint is TRUE: one that asks of each tuple of the relvar that was changed is tested by
@@ -235,22 +244,24 @@ fn test_after<B: Body>(
     catalog: &Catalog<B>,
     reached: &MarkedNames,
     added: Option<&Added<'_>>,
+    plan: Option<&Plan>,
     name: &Name,
     condition: &DefiningExpression,
 ) -> Result<(), Failure>
     requires plannable { IsPlannable catalog.now.database condition.now }
     requires added { IfSome added (IsTestedBy reached.now catalog.now.database
         (named_constraint name.now condition.now)) }
+    requires plan { IsKeptPlan catalog.now.database condition.now plan }
     ensures { Passes result (constraint_check (world_of catalog.now.database)
         (named_constraint name.now condition.now)) }
 {
     let Some(added) = added else {
-        return test_constraint(alloc, catalog, name, condition);
+        return test_constraint(alloc, catalog, plan, name, condition);
     };
     if asks_of_tuples(alloc, condition.tree(), added.relvar, reached) {
-        test_added(alloc, catalog, added, name, condition)
+        test_added(alloc, catalog, added, plan, name, condition)
     } else {
-        test_constraint(alloc, catalog, name, condition)
+        test_constraint(alloc, catalog, plan, name, condition)
     }
 }
 
@@ -258,8 +269,10 @@ fn test_after<B: Body>(
 fn check_constraint<B: Body>(
     alloc: Global,
     catalog: &Catalog<B>,
+    plans: &mut Vec<Option<Plan>>,
     reached: &MarkedNames,
     added: Option<&Added<'_>>,
+    place: usize,
     name: &Name,
     condition: &DefiningExpression,
 ) -> Result<(), Failure>
@@ -268,19 +281,33 @@ fn check_constraint<B: Body>(
         (named_constraint name.now condition.now) }
     requires added { IfSome added (IsTestedBy reached.now catalog.now.database
         (named_constraint name.now condition.now)) }
-    ensures { Passes result (constraint_check (world_of catalog.now.database)
+    requires place { slice_get catalog.now.database.constraints place
+        ≡ Some (named_constraint name.now condition.now) }
+    requires plans { AreKeptPlans catalog.now.database plans.old.items }
+    ensures passed { Passes result (constraint_check (world_of catalog.now.database)
         (named_constraint name.now condition.now)) }
+    ensures plans { AreKeptPlans catalog.now.database plans.new.items }
 {
     if !condition.names_any(reached) {
         return Ok(());
     }
-    test_after(alloc, catalog, reached, added, name, condition)
+    keep_plan(alloc, catalog, plans, place, condition)?;
+    test_after(
+        alloc,
+        catalog,
+        reached,
+        added,
+        plan_at(plans, place),
+        name,
+        condition,
+    )
 }
 
 /// The constraints in which one of those reached is named are TRUE.
 fn check_constraints<B: Body>(
     alloc: Global,
     catalog: &Catalog<B>,
+    plans: &mut Vec<Option<Plan>>,
     reached: &MarkedNames,
     added: Option<&Added<'_>>,
 ) -> Result<(), Failure>
@@ -288,16 +315,20 @@ fn check_constraints<B: Body>(
         (PassesUnlessNamed reached.now (world_of catalog.now.database))
         catalog.now.database.constraints }
     requires added { IfSome added (AreTestedBy reached.now catalog.now.database) }
-    ensures { Passes result
+    requires plans { AreKeptPlans catalog.now.database plans.old.items }
+    ensures passed { Passes result
         (first_refusal (constraint_check (world_of catalog.now.database))
         catalog.now.database.constraints) }
+    ensures plans { AreKeptPlans catalog.now.database plans.new.items }
 {
     catalog.reveal();
     for place in 0..catalog.constraint_count() {
         let Some((name, condition)) = catalog.nth_constraint(place) else {
             return Ok(());
         };
-        match check_constraint(alloc, catalog, reached, added, name, condition) {
+        match check_constraint(
+            alloc, catalog, plans, reached, added, place, name, condition,
+        ) {
             Ok(()) => {}
             Err(failure) => return Err(failure),
         }
@@ -309,15 +340,18 @@ fn check_constraints<B: Body>(
 fn check_derived<B: Body>(
     alloc: Global,
     catalog: &Catalog<B>,
+    plans: &mut Vec<Option<Plan>>,
     reached: &MarkedNames,
     added: Option<&Added<'_>>,
 ) -> Result<(), Failure>
     requires elsewhere { PassesElsewhere reached.now catalog.now.database }
     requires added { IfSome added (AreTestedBy reached.now catalog.now.database) }
-    ensures { Passes result (derived_check catalog.now.database) }
+    requires plans { AreKeptPlans catalog.now.database plans.old.items }
+    ensures passed { Passes result (derived_check catalog.now.database) }
+    ensures plans { AreKeptPlans catalog.now.database plans.new.items }
 {
     match check_virtuals(alloc, catalog, reached) {
-        Ok(()) => check_constraints(alloc, catalog, reached, added),
+        Ok(()) => check_constraints(alloc, catalog, plans, reached, added),
         Err(failure) => Err(failure),
     }
 }
@@ -327,15 +361,18 @@ fn check_derived<B: Body>(
 pub(crate) fn check_after<B: Body>(
     alloc: Global,
     catalog: &Catalog<B>,
+    plans: &mut Vec<Option<Plan>>,
     reached: &MarkedNames,
     added: Option<&Added<'_>>,
 ) -> Result<(), Failure>
     requires held { BasesHold catalog.now.database }
     requires elsewhere { PassesElsewhere reached.now catalog.now.database }
     requires added { IfSome added (AreTestedBy reached.now catalog.now.database) }
-    ensures { Changes catalog.now.database result (checked_effect catalog.now.database) }
+    requires plans { AreKeptPlans catalog.now.database plans.old.items }
+    ensures change { Changes catalog.now.database result (checked_effect catalog.now.database) }
+    ensures plans { AreKeptPlans catalog.now.database plans.new.items }
 {
-    check_derived(alloc, catalog, reached, added)
+    check_derived(alloc, catalog, plans, reached, added)
 }
 
 // ---- what was defined last
@@ -368,7 +405,7 @@ pub(crate) fn check_last_constraint<B: Body>(
     catalog.reveal();
     let place = catalog.constraint_count().saturating_sub(1);
     match catalog.nth_constraint(place) {
-        Some((name, condition)) => test_constraint(alloc, catalog, name, condition),
+        Some((name, condition)) => test_constraint(alloc, catalog, None, name, condition),
         None => Ok(()),
     }
 }

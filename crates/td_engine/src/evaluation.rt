@@ -1,7 +1,7 @@
 //! The values of expressions where no tuple is in hand.
 ghost use Rattle.std.specs.Prelude.{◌≡◌, [], IfOk, option_map};
-ghost use Rattle.td_engine.specs.Assignments.{of_heading, source_world};
-ghost use Rattle.td_engine.specs.code.Plannable.{IsPlannable, IsPlannableSource};
+ghost use Rattle.td_engine.specs.Assignments.{of_heading};
+ghost use Rattle.td_engine.specs.code.Plannable.{IsPlannable};
 ghost use Rattle.td_engine.specs.code.Targets.{IsEnvOf};
 ghost use Rattle.td_eval.specs.DatabaseWorlds.{with_other, world_of};
 ghost use Rattle.td_eval.specs.OperatorValues.{on_relation};
@@ -50,21 +50,6 @@ pub(crate) fn value<B: Body>(
         (value_of (world_of catalog.now.database) [] (tree_view expr.now)) }
 {
     value_in(alloc, &env_with(catalog, None), expr)
-}
-
-/// The value of one where the relvar's name means another relation.
-pub(crate) fn value_with<'a, B: Body>(
-    alloc: Global,
-    catalog: &'a Catalog<B>,
-    relvar: &'a Name,
-    relation: &'a Rel,
-    expr: &Expr,
-) -> Result<Value, Fault>
-    requires { IsPlannableSource catalog.now.database relvar.now relation.now (tree_view expr.now) }
-    ensures { Answers (λ v. v) result (value_of
-        (source_world catalog.now.database relvar.now relation.now) [] (tree_view expr.now)) }
-{
-    value_in(alloc, &env_with(catalog, Some((relvar, relation))), expr)
 }
 
 // ---- relations of a heading

@@ -8,6 +8,7 @@ mod bases;
 mod beside;
 mod change;
 mod checks;
+mod constraint_plans;
 mod definitions;
 pub mod engine;
 mod evaluation;

@@ -17,6 +17,7 @@ ghost use Rattle.td_value.specs.Literal.{literal};
 ghost use Rattle.td_value.specs.Values.{Val};
 
 use crate::answer::{Answer, line};
+use crate::constraint_plans::forget;
 use crate::evaluation::value;
 use crate::refusal::{Failure, Refusal};
 use crate::statement::{change, check_in};
@@ -24,6 +25,7 @@ use std::alloc::{AllocError, Global};
 use std::marker::Model;
 use td_body::body::Body;
 use td_catalog::catalog::Catalog;
+use td_plan::plan::Plan;
 use td_tree::cause::Cause;
 use td_tree::fault::Fault;
 use td_tree::statement::Statement;
@@ -34,6 +36,8 @@ use td_value::value::Value;
 pub(crate) struct Present<B: Body> {
     alloc: Global,
     catalog: Catalog<B>,
+    /// Plans of the constraints, each at its constraint's place, where one was made.
+    plans: Vec<Option<Plan>>,
 }
 
 impl<B: Body> Model for Present<B> {
@@ -46,9 +50,11 @@ impl<B: Body> Model for Present<B> {
 
     ghost view = { λ p. p.catalog };
 
+    ghost use Rattle.td_engine.specs.code.ConstraintPlans.{AreKeptPlans};
     ghost use Rattle.td_engine.specs.Legality.{IsLegal};
 
-    ghost invariant = { λ p. IsLegal p.catalog.database };
+    ghost invariant = { λ p. IsLegal p.catalog.database
+        × AreKeptPlans p.catalog.database p.plans.items };
 }
 
 /// The answer to what is refused by a cause.
@@ -133,6 +139,7 @@ impl<B: Body> Present<B> {
         Present {
             alloc,
             catalog: Catalog::new(alloc),
+            plans: Vec::new(alloc),
         }
     }
 
@@ -158,6 +165,7 @@ impl<B: Body> Present<B> {
         ensures { stages self.new ≡ take (place + 1) (stages self.old) }
     {
         self.catalog.revert(place);
+        forget(&mut self.plans);
     }
 
     /// Keeps no earlier database any longer. It takes no memory.
@@ -216,7 +224,7 @@ impl<B: Body> Present<B> {
         ensures legal { IsLegal self.new.database }
     {
         let place = self.catalog.kept();
-        match change(self.alloc, &mut self.catalog, statement) {
+        match change(self.alloc, &mut self.catalog, &mut self.plans, statement) {
             Ok(()) => match Answer::ok(self.alloc) {
                 Ok(answer) => Ok(answer),
                 Err(error) => {

@@ -4,6 +4,7 @@ pub mod Equalities
 pub mod EqualitiesOfNames
 pub mod EqualitiesOfValues
 pub mod Fixing
+pub mod LaterRuns
 pub mod LookUps
 pub mod Narrowing
 pub mod OperatorTrees

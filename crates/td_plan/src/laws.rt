@@ -1,6 +1,12 @@
 //! What plans stand on: each function has its contract alone.
+ghost use Rattle.td_plan.specs.LaterRuns.{PlansServeTheirScope};
 ghost use Rattle.td_plan.specs.TotalConditions.{UnfailingConditionsAreTotal};
 ghost use Rattle.td_plan.specs.VirtualRelvars.{VirtualRelvarsAreTheirExpressions};
+
+/// A plan may be run in another state than the one in which it was made, if the same is known there.
+pub fn plans_serve_their_scope()
+    ensures { PlansServeTheirScope }
+{}
 
 /// A condition that cannot fail in the tuples of a relation has a truth value in each of them.
 pub fn unfailing_conditions_are_total()

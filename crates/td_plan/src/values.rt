@@ -1,9 +1,10 @@
 //! The values of expressions, by plans that are made of them and run.
-ghost use Rattle.std.specs.Prelude.{◌≡◌, IsTrue, length};
+ghost use Rattle.std.specs.Prelude.{◌≡◌, IfSome, IsTrue, length};
 ghost use Rattle.td_eval.specs.OperatorValues.{of_relation, set_value};
 ghost use Rattle.td_eval.specs.code.Sights.{tuples_in_hand, world_in};
 ghost use Rattle.td_eval.specs.TreeValues.{value_of, values_in_tuples};
-ghost use Rattle.td_plan.specs.PlansOf.{MeetsRules, PartsMeetRulesIn, scope_in};
+ghost use Rattle.td_plan.specs.PlansOf.{IsPlanIfTyped, MeetsRules, PartsMeetRulesIn, scope_in};
+ghost use Rattle.td_plan.specs.code.PlanViews.{plan_view};
 ghost use Rattle.td_tree.specs.Outcomes.{Answers, Outcome, with_value};
 ghost use Rattle.td_tree.specs.code.TreeViews.{named_view, tree_view};
 ghost use Rattle.td_tree.specs.Trees.{name, restriction};
@@ -15,6 +16,7 @@ ghost use Rattle.td_value.specs.Values.{Relation};
 
 use crate::making::closed::is_closed;
 use crate::making::plans::{plan, plan_in_relvar, plan_settings};
+use crate::plan::Plan;
 use crate::running::run_plan::run_valued;
 use std::alloc::Global;
 use td_body::body::Body;
@@ -40,6 +42,25 @@ pub fn value_in<B: Body>(alloc: Global, env: &Env<'_, B>, expr: &Expr) -> Result
     }
     let plan = plan(alloc, env, expr)?;
     run_valued(alloc, env, &plan)
+}
+
+/// The same by a plan of the expression, if there is one.
+pub fn value_by<B: Body>(
+    alloc: Global,
+    env: &Env<'_, B>,
+    plan: Option<&Plan>,
+    expr: &Expr,
+) -> Result<Value, Fault>
+    requires { IfSome plan (λ p. IsPlanIfTyped (scope_in env.now) (plan_view p.now)
+        (tree_view expr.now)) }
+    ensures { MeetsRules (world_in env.now) (scope_in env.now) (tuples_in_hand env.now)
+        (tree_view expr.now) → Answers (λ v. v) result
+        (value_of (world_in env.now) (tuples_in_hand env.now) (tree_view expr.now)) }
+{
+    match plan {
+        Some(plan) => run_valued(alloc, env, plan),
+        None => value_in(alloc, env, expr),
+    }
 }
 
 /// The tuples of the relvar for which the condition is TRUE, or the least of the causes for which

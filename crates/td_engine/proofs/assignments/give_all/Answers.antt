@@ -3,7 +3,9 @@ use Rattle.td_catalog.specs.Database.{Database}
 use Rattle.td_engine.proofs.law_lemmas.GiftsInTurn.{bases_refused}
 use Rattle.td_engine.proofs.law_lemmas.Settled.{bases_hold}
 use Rattle.td_engine.specs.Assignments.{with_gifts}
+use Rattle.td_engine.proofs.code_lemmas.ConstraintPlanLaws.{kept_after, kept_before}
 use Rattle.td_engine.specs.code.Carried.{Changes}
+use Rattle.td_engine.specs.code.ConstraintPlans.{AreKeptPlans}
 use Rattle.td_engine.specs.Changes.{AreTypedChanges, given_as, given_in}
 use Rattle.td_catalog.specs.TypedDatabases.{IsTyped}
 use Rattle.td_engine.proofs.code_lemmas.AddedTuples.{additions}
@@ -43,7 +45,21 @@ settle_gifts-requires-clause-added g c = λ relvar change is is_relation.
 
 pub returns-in-Ok-clause-change : goal.returns-in-Ok-clause-change
 returns-in-Ok-clause-change g c =
-    subst (λ (db : Database). Changes c.put_all.new.catalog.database c.settle_gifts.result (checked_effect db)) c.in-Ok.ensures.next c.settle_gifts.ensures
+    subst (λ (db : Database). Changes c.put_all.new.catalog.database c.settle_gifts.result (checked_effect db)) c.in-Ok.ensures.next c.settle_gifts.ensures.change
+
+pub settle_gifts-requires-clause-plans : goal.settle_gifts-requires-clause-plans
+settle_gifts-requires-clause-plans g c =
+    let db = c.args.catalog.now.database in
+    let given = given_in db c.args.given.now.entries in
+    subst (λ (m : Database). AreKeptPlans m c.args.plans.now.items) (sym c.in-Ok.ensures.next)
+    (kept_after db given c.requires.legal c.requires.typed c.args.plans.now.items c.requires.plans)
+
+pub returns-in-Ok-clause-before : goal.returns-in-Ok-clause-before
+returns-in-Ok-clause-before g c =
+    let db = c.args.catalog.now.database in
+    let given = given_in db c.args.given.now.entries in
+    kept_before db given c.requires.legal c.requires.typed c.settle_gifts.new.plans.items
+    (subst (λ (m : Database). AreKeptPlans m c.settle_gifts.new.plans.items) c.in-Ok.ensures.next c.settle_gifts.ensures.plans)
 
 pub returns-in-Err-clause-change : goal.returns-in-Err-clause-change
 returns-in-Err-clause-change g c =

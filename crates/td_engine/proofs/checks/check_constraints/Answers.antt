@@ -26,14 +26,22 @@ check_constraint-requires-clause-added g c =
     tested_at c.args.reached.now db c.loop-place.place (named_constraint c.in-Some.name.now c.in-Some.condition.now) c.args.added
     (sym c.in-Some.ensures) c.requires.added
 
-pub returns-in-Err : goal.returns-in-Err
-returns-in-Err g c =
+pub check_constraint-requires-clause-place : goal.check_constraint-requires-clause-place
+check_constraint-requires-clause-place g c = sym c.in-Some.ensures
+
+pub check_constraint-requires-clause-plans : goal.check_constraint-requires-clause-plans
+check_constraint-requires-clause-plans g c = c.loop-place.invariant.1
+
+pub returns-in-Err-clause-passed : goal.returns-in-Err-clause-passed
+returns-in-Err-clause-passed g c =
     let db = c.args.catalog.now.database in
     let k = named_constraint c.in-Some.name.now c.in-Some.condition.now in
-    refusal_at (constraint_check (world_of db)) db.constraints c.loop-place.place k c.in-Err.failure c.loop-place.invariant (sym c.in-Some.ensures) c.in-Err.ensures
+    refusal_at (constraint_check (world_of db)) db.constraints c.loop-place.place k c.in-Err.failure c.loop-place.invariant.0 (sym c.in-Some.ensures) c.in-Err.ensures.passed
 
 pub loop-place-preserved : goal.loop-place-preserved
 loop-place-preserved g c =
     let db = c.args.catalog.now.database in
-    let k = named_constraint c.in-Some.name.now c.in-Some.condition.now in
-    passed_next (constraint_check (world_of db)) db.constraints c.loop-place.place k c.loop-place.invariant (sym c.in-Some.ensures) c.in-Ok.ensures
+    let k = named_constraint c.in-Some.name.now c.in-Some.condition.now in (
+      passed_next (constraint_check (world_of db)) db.constraints c.loop-place.place k c.loop-place.invariant.0 (sym c.in-Some.ensures) c.in-Ok.ensures.passed,
+      c.check_constraint.ensures.plans,
+    )

@@ -17,7 +17,7 @@ invariant_of-self g c =
     let s = statement_view c.args.statement in
     let same : c.self.inside.catalog.database ≡ db = ap (λ (v : CatalogView). v.database) c.self.view_is in
     let accepted : carried_out db s ≡ Accepted c.change.new.catalog.database ok_text = ap (λ d. carried_out d s) (sym same) ∙ c.in-Ok.ensures.change c.requires.change in
-    changed_legal db c.change.new.catalog.database s (subst IsLegal same c.self.invariant) c.requires.admitted accepted
+    (changed_legal db c.change.new.catalog.database s (subst IsLegal same c.self.invariant.0) c.requires.admitted accepted, c.in-Ok.ensures.after)
 
 pub returns-in-Ok-ok-clause-legal : goal.returns-in-Ok-ok-clause-legal
 returns-in-Ok-ok-clause-legal g c =
@@ -25,7 +25,7 @@ returns-in-Ok-ok-clause-legal g c =
     let s = statement_view c.args.statement in
     let same : c.self.inside.catalog.database ≡ db = ap (λ (v : CatalogView). v.database) c.self.view_is in
     let accepted : carried_out db s ≡ Accepted c.change.new.catalog.database ok_text = ap (λ d. carried_out d s) (sym same) ∙ c.in-Ok.ensures.change c.requires.change in
-    changed_legal db c.change.new.catalog.database s (subst IsLegal same c.self.invariant) c.requires.admitted accepted
+    changed_legal db c.change.new.catalog.database s (subst IsLegal same c.self.invariant.0) c.requires.admitted accepted
 
 pub returns-in-Err-clause-done : goal.returns-in-Err-clause-done
 returns-in-Err-clause-done g c =

@@ -7,4 +7,4 @@ use Rattle.td_engine.proofs.present.Present.revert.Goals as goal
 pub invariant_of-self : goal.invariant_of-self
 invariant_of-self g c =
     let back = c.revert.ensures ∙ ap (λ (v : CatalogView). take (c.args.place + 1) (stages v)) c.self.view_is in
-    subst IsLegal (sym (back_stage c.args.self.now c.revert.new.self c.args.place c.requires.place back)) c.requires.legal
+    (subst IsLegal (sym (back_stage c.args.self.now c.revert.new.self c.args.place c.requires.place back)) c.requires.legal, c.forget.ensures _)
