@@ -5,6 +5,7 @@ ghost use Rattle.td_catalog.specs.Database.{Database, NamedConstraint};
 ghost use Rattle.td_engine.specs.code.ConstraintPlans.{AreKeptPlans, IsKeptPlan};
 
 use crate::evaluation::env_with;
+use crate::refusal::Failure;
 use std::alloc::{AllocError, Global};
 use td_body::body::Body;
 use td_catalog::catalog::Catalog;
@@ -30,14 +31,16 @@ pub(crate) fn forget(plans: &mut Vec<Option<Plan>>)
     plans.clear();
 }
 
-/// Has at least so many places.
-fn fill(plans: &mut Vec<Option<Plan>>, count: usize) -> Result<(), AllocError>
-    ensures { (db : Database) → AreKeptPlans db plans.old.items → AreKeptPlans db plans.new.items }
+/// The same once a definition or a drop was done.
+pub(crate) fn forgotten(
+    plans: &mut Vec<Option<Plan>>,
+    done: Result<(), Failure>,
+) -> Result<(), Failure>
+    ensures done { result ≡ done }
+    ensures plans { (db : Database) → AreKeptPlans db plans.new.items }
 {
-    while plans.len() < count {
-        plans.push(None)?;
-    }
-    Ok(())
+    forget(plans);
+    done
 }
 
 /// Puts a plan at a place that there is.
@@ -65,9 +68,9 @@ pub(crate) fn keep_plan<B: Body>(
         return Ok(());
     }
     let made = plan(alloc, &env_with(catalog, None), condition.tree())?;
-    fill(plans, place.saturating_add(1))?;
-    if place < plans.len() {
-        set(plans, place, Some(made));
+    while plans.len() <= place {
+        plans.push(None)?;
     }
+    set(plans, place, Some(made));
     Ok(())
 }

@@ -12,7 +12,7 @@ ghost use Rattle.td_tree.specs.code.TreeViews.{statement_view};
 
 use crate::assignments::assign;
 use crate::bases::define_base;
-use crate::constraint_plans::forget;
+use crate::constraint_plans::forgotten;
 use crate::definitions::{
     define_constraint, define_type, define_virtual, drop_constraint, drop_relvar, drop_type,
     unchecked_effect,
@@ -54,33 +54,20 @@ pub(crate) fn change<B: Body>(
     ensures after { OnOk result (AreKeptPlans catalog.new.database plans.new.items) }
 {
     match statement {
-        Statement::DefineType(definition) => {
-            forget(plans);
-            define_type(catalog, definition)
-        }
-        Statement::DropType(name) => {
-            forget(plans);
-            unchecked_effect(drop_type(catalog, &name))
-        }
+        Statement::DefineType(definition) => forgotten(plans, define_type(catalog, definition)),
+        Statement::DropType(name) => forgotten(plans, unchecked_effect(drop_type(catalog, &name))),
         Statement::DefineBase(definition) => {
-            forget(plans);
-            define_base(alloc, catalog, definition)
+            forgotten(plans, define_base(alloc, catalog, definition))
         }
         Statement::DefineVirtual(definition) => {
-            forget(plans);
-            define_virtual(alloc, catalog, definition)
+            forgotten(plans, define_virtual(alloc, catalog, definition))
         }
-        Statement::DropVar(name) => {
-            forget(plans);
-            unchecked_effect(drop_relvar(catalog, &name))
-        }
+        Statement::DropVar(name) => forgotten(plans, unchecked_effect(drop_relvar(catalog, &name))),
         Statement::DefineConstraint(name, condition) => {
-            forget(plans);
-            define_constraint(alloc, catalog, name, condition)
+            forgotten(plans, define_constraint(alloc, catalog, name, condition))
         }
         Statement::DropConstraint(name) => {
-            forget(plans);
-            unchecked_effect(drop_constraint(catalog, &name))
+            forgotten(plans, unchecked_effect(drop_constraint(catalog, &name)))
         }
         Statement::Assign(assignments) => assign(alloc, catalog, plans, assignments),
         Statement::Empty | Statement::BeginTransaction | Statement::Commit | Statement::Rollback =>
