@@ -1,5 +1,5 @@
 -- Sets of slots as the bits of numbers.
-use Rattle.std.proofs.Common.{◌≡◌, ◌∙◌, ◌<◌, ◌≤◌, ◌*◌, ◌%◌, ◌^◌, ◌-◌, ◌∷◌, ◌++◌, ◌⊎◌, inl, inr, [], List, ℕ, ap, arith, bit_and, bit_or, max, min, subst, sym}
+use Rattle.std.proofs.Common.{◌≡◌, ◌∙◌, ◌<◌, ◌≤◌, ◌*◌, ◌%◌, ◌^◌, ◌-◌, ◌∷◌, ◌++◌, ◌⊎◌, inl, inr, [], List, ℕ, ap, arith, bit_and, bit_or, max, min, subst}
 use Rattle.std.proofs.lemmas.Bool.{cases_eq, cases_lt}
 use Rattle.std.proofs.lemmas.Nat.{one_shl, pow_below, pow_pos}
 use Rattle.std.proofs.lemmas.Nat.Bits.{bit_at-lt, bit_at-pow_same, bit_at_above, bit_at_and, bit_at_clear_other, bit_at_ones, bit_at_or, ones_shl}

@@ -1,5 +1,5 @@
 -- Steps whose parts are kept once they are made.
-use Rattle.std.proofs.Common.{◌≡◌, ◌∙◌, ◌∷◌, ◌⊎◌, [], List, inl, inr, ℕ, suc, ap, length, refl, subst, sym}
+use Rattle.std.proofs.Common.{◌≡◌, ◌∙◌, ◌∷◌, [], List, inl, inr, ℕ, suc, ap, length, refl, subst, sym}
 use Rattle.std.specs.Prelude.{⊤}
 use Rattle.td_plan.specs.declared.plan.step.Step.{Step}
 use Rattle.td_plan.proofs.PlacedLaws.{placed_all, placed_both, placed_map, placed_more}

@@ -1,4 +1,4 @@
-use Rattle.std.proofs.Common.{◌≡◌, ◌∙◌, ◌<◌, ◌≤◌, ◌+◌, ◌++◌, ◌∷◌, [], List, ap, arith, bit_or, inl, inr, length, refl, slice_set, subst, sym, take, ℕ}
+use Rattle.std.proofs.Common.{◌≡◌, ◌∙◌, ◌<◌, ◌≤◌, ◌+◌, ◌∷◌, [], ap, arith, bit_or, length, refl, slice_set, subst, sym, take}
 use Rattle.std.proofs.lemmas.Result.{IfOk-weaker}
 use Rattle.td_plan.proofs.EachStep.{each_all, each_next}
 use Rattle.td_plan.proofs.NamedSlots.{Outside, all_among_more, among_left, among_right, beside_more, outside}
@@ -7,8 +7,8 @@ use Rattle.td_plan.proofs.RememberedRows.{part_deep, parts_deep, parts_sound}
 use Rattle.td_plan.proofs.StepRows.{select_is, steps_are}
 use Rattle.td_plan.proofs.Withins.{aggregate_on, attribute_on, bound_on, choice_on, dyadic_on, extend_on, look_up_on, monadic_on, on_alone, on_more, restriction_on, select_on, summarize_by_on, summarize_per_on}
 use Rattle.td_plan.specs.Plans as plans
-use Rattle.td_plan.specs.code.Memos.{AreOn, AreWithinReach, IsOn, IsSound}
-use Rattle.td_plan.specs.code.Remembered.{AreAllAmong, AreAmong, AreEachKept, AreEachRemembered, Before, Beside, IsRemembered, KeepsPart, Names}
+use Rattle.td_plan.specs.code.Memos.{AreWithinReach, IsOn}
+use Rattle.td_plan.specs.code.Remembered.{AreAllAmong, AreAmong, AreEachKept, AreEachRemembered, Before, Beside, IsRemembered, Names}
 use Rattle.td_plan.specs.code.StepHeights.{step_height}
 use Rattle.td_plan.specs.code.StepViews.{dyadic_view, monadic_view, selector_view, step_view, steps_view}
 use Rattle.td_tree.specs.code.TreeViews.{attributes_view}
