@@ -68,7 +68,10 @@ pub(crate) fn attribute(hand: &Hand<'_, '_>, slot: usize, place: usize) -> Resul
     ensures { Answers (λ v. v) result (value_or (slice_get (slots_of hand.now slot) place)) }
 {
     let tuple = tuple_in(hand, slot).ok_or(Fault::Refused(Cause::NameUnknown))?;
-    let value = tuple.values().get(place).ok_or(Fault::Refused(Cause::NameUnknown))?;
+    let value = tuple
+        .values()
+        .get(place)
+        .ok_or(Fault::Refused(Cause::NameUnknown))?;
     Ok(value.try_clone()?)
 }
 

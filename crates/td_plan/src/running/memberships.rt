@@ -58,12 +58,7 @@ fn common_value<'m>(memo: &'m Memo, step: &'m Step) -> Option<&'m Value>
 
 /// Puts the values of the parts into the list, in place of what is there, if all are found without
 /// causes.
-fn put_parts(
-    memo: &Memo,
-    hand: &Hand<'_, '_>,
-    parts: &[Step],
-    row: &mut Vec<Value>,
-) -> Option<()>
+fn put_parts(memo: &Memo, hand: &Hand<'_, '_>, parts: &[Step], row: &mut Vec<Value>) -> Option<()>
     ensures { IfSome result (λ _. (ps : Parts) (w : World) → AreSound ps parts.now
         → IsMemo ps w (slots_of hand.now) memo.now
         → gathered (step_values w (slots_of hand.now) parts.now) ≡ Valued row.new.items) }

@@ -17,9 +17,17 @@ values_in_rows-requires g t c =
     let a = c.in-Some.ensures.kept r.parts r.sound r.memo in
     λ κs o. (
       omega (arith, c.decreases, c.in-Some.ensures.height),
-      (o.0, (o.1, (lower (omega (arith, c.in-Some.ensures.height)) c.requires.below,
-          ready_hoisted w c.args.inside.now c.in-Some.hoisted.inside c.args.step.now c.in-Some.hoisted.step.now c.hoisted_loop.new.memo a.0 c.in-Some.ensures.sound
-          (ready_still c.hoisted_loop.ensures.kept r)))),
+      (
+        o.0,
+        (
+          o.1,
+          (
+            lower (omega (arith, c.in-Some.ensures.height)) c.requires.below,
+            ready_hoisted w c.args.inside.now c.in-Some.hoisted.inside c.args.step.now c.in-Some.hoisted.step.now c.hoisted_loop.new.memo a.0 c.in-Some.ensures.sound
+                (ready_still c.hoisted_loop.ensures.kept r),
+          ),
+        ),
+      ),
     )
 
 pub returns-in-Some : goal.returns-in-Some
