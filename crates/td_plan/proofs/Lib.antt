@@ -8,6 +8,7 @@ pub mod EqualRestrictions
 pub mod EqualValues
 pub mod FixedParts
 pub mod FixedValues
+pub mod Granted
 pub mod HandSlots
 pub mod Hoisting
 pub mod LookUpLaws

@@ -19,7 +19,7 @@ use Rattle.std.proofs.Math.Logic.{inl, inr}
 use Rattle.td_check.specs.OperatorTypes.{same_heading}
 use Rattle.td_eval.specs.OperatorValues.{comparison_value, tuple_from}
 use Rattle.std.specs.Global.{Vec}
-use Rattle.std.specs.Prelude.{Option, Some, None}
+use Rattle.std.specs.Prelude.{IfSome, Option, Some, None}
 use Rattle.td_eval.specs.Worlds.{World}
 use Rattle.td_plan.proofs.QuickRows.{of_one}
 use Rattle.td_plan.specs.declared.plan.step.Step.{Step}
@@ -240,12 +240,13 @@ made_of_one n (Valued v) k = refl
 made_of_one n (Refused cs) k = refl
 
 -- which of the numbers that a part gives in rows are members
-pub numbers_in_rows : (n : List ℕ) (part : Step) (w : World) (inside : Inside) (r : Relation) (ts : List Tuple) (zs ys : List ℤ) (bs : List Bool)
+pub numbers_in_rows : (n : List ℕ) (part : Step) (w : World) (inside : Inside) (r : Relation) (ts : List Tuple) (zs ys : List ℤ) (found : Option (Vec Bool))
     → r.heading ≡ (n, types.integer) ∷ [] → r.body ≡ map (one_number n) ys
-    → AreInRows integer (value_inside w inside part) ts zs → bs ≡ map (λ z. has int_cmp z ys) zs
-    → AreInRows boolean (λ t. with_value (tuple_inside w inside (n ∷ []) (part ∷ []) t) (λ v. comparison_value comparisons.In v (relation_value r))) ts bs
-numbers_in_rows n part w inside r ts zs ys bs headed body found is =
+    → AreInRows integer (value_inside w inside part) ts zs → IfSome found (λ bs. bs.items ≡ map (λ z. has int_cmp z ys) zs)
+    → AreQuick boolean (λ t. with_value (tuple_inside w inside (n ∷ []) (part ∷ []) t) (λ v. comparison_value comparisons.In v (relation_value r))) ts found
+numbers_in_rows n part w inside r ts zs ys None headed body numbers is = tt
+numbers_in_rows n part w inside r ts zs ys (Some bs) headed body numbers is =
     let k = λ (v : Val). comparison_value comparisons.In v (relation_value r) in
     (λ i. map (λ t. made_of_one n (value_inside w inside part t) k i) ts)
-    ∙ of_one integer (λ v. k (tuple_value ((n, v) ∷ []))) (value_inside w inside part) ts zs found
+    ∙ of_one integer (λ v. k (tuple_value ((n, v) ∷ []))) (value_inside w inside part) ts zs numbers
     ∙ are_number_members n r ys zs headed body ∙ ap (map (λ b. Valued (boolean b))) (sym is)

@@ -1,5 +1,5 @@
 -- What is found in all tuples of a relation without causes.
-use Rattle.std.proofs.Common.{◌≡◌, ◌∙◌, ◌<◌, ◌+◌, ◌++◌, ℕ, Bool, Option, Some, true, List, [], ◌∷◌, ap, arith, get_or, length, map, refl, subst, sym, take}
+use Rattle.std.proofs.Common.{◌≡◌, ◌∙◌, ◌<◌, ◌+◌, ◌++◌, ℕ, Bool, Option, true, List, [], ◌∷◌, ap, arith, get_or, length, map, refl, subst, sym, take}
 use Rattle.std.proofs.lemmas.Bool.{eqb-true}
 use Rattle.std.proofs.lemmas.List.{append_assoc, append-nil, map-append}
 use Rattle.std.specs.Global.{Vec}
@@ -68,11 +68,6 @@ pub quick_inside : {X : Type 0} (view : X → Val) (found : Option X) (w : World
 quick_inside view found w inside t s step memo ps is m q =
     subst (λ x. IsQuick view found (step_value w x step)) is
     (q (subst (λ x. IsMemo ps w x memo) (sym is) (m (slots_inside inside t) (agree_below inside.slot (values_of t) (slots_in inside.outer.items)))))
-
--- what is found is the values
-pub found_in : {X : Type 0} (view : X → Val) (f : Tuple → Outcome Val) (ts : List Tuple) (found : Option (Vec X)) (v : Vec X) → found ≡ Some v
-    → AreQuick view f ts found → (xs : List X) → xs ≡ v.items → AreInRows view f ts xs
-found_in view f ts found v is q xs same = subst (AreInRows view f ts) (sym same) (subst (AreQuick view f ts) is q)
 
 -- what two steps give in tuples is what is given of their values at each place
 abbrev pub of_two : {X : Type 0} → (X → Val) → (Val → Val → Outcome Val) → X × X → Outcome Val

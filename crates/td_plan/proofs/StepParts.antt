@@ -1,20 +1,21 @@
--- What steps are made of that have lists of parts, as the code stores them.
+-- What steps are made of that have two parts or lists of parts, as the code stores them.
 use Rattle.std.proofs.Common.{◌≡◌, ◌∙◌, ℕ, List, ap, refl, subst, suc, sym}
 use Rattle.std.specs.Global.{Box, Vec}
 use Rattle.std.specs.Prelude.{max}
 use Rattle.td_eval.specs.Worlds.{World}
 use Rattle.td_group.specs.declared.aggregates.Agg.{Agg}
 use Rattle.td_plan.proofs.StepRows.{bound_is, extend_is, select_is, steps_are, summarize_by_is, summarize_per_is}
+use Rattle.td_plan.specs.declared.plan.step.Dyadic.{Dyadic}
 use Rattle.td_plan.specs.declared.plan.step.Selector.{Selector}
 use Rattle.td_plan.specs.declared.plan.step.Selector.TheVariants as selectors
 use Rattle.td_plan.specs.declared.plan.step.Step.{Step, Row_of-Step, end_of-Step, more_of-Step, items-the_row-Step, items_hidden-the_row-Step-0}
 use Rattle.td_plan.specs.declared.plan.step.Step.TheVariants as p
 use Rattle.td_plan.specs.declared.running.memo.Memo.{Memo}
-use Rattle.td_plan.specs.Plans.{PlanTree, Slots, bound, extend, plan_value, select, summarize_by, summarize_per}
+use Rattle.td_plan.specs.Plans.{PlanTree, Slots, bound, dyadic, extend, plan_value, select, summarize_by, summarize_per}
 use Rattle.td_plan.specs.code.Memos.{AreWithinReach, AreSound, IsMemo, IsReady, IsSound, IsSoundRow, Keeps, Parts}
 use Rattle.td_plan.specs.code.Runs.{step_value}
 use Rattle.td_plan.specs.code.StepHeights.{row_height, step_height, steps_height}
-use Rattle.td_plan.specs.code.StepViews.{selector_view, step_view, steps_row, steps_view}
+use Rattle.td_plan.specs.code.StepViews.{dyadic_view, selector_view, step_view, steps_row, steps_view}
 use Rattle.td_tree.specs.declared.expression.Attributes.{Attributes}
 use Rattle.td_tree.specs.declared.fault.Fault.{Fault}
 use Rattle.td_tree.specs.code.TreeViews.{attributes_view}
@@ -52,6 +53,16 @@ pub record IsMade (step : Step) (tree : PlanTree) (high : ℕ) (are : Parts → 
   pub view : step_view step ≡ tree
   pub height : step_height step ≡ high
   pub sound : (ps : Parts) → IsSound ps step → are ps
+
+pub dyadic_made : (step : Step) (l r : Box Step) (d e : Step) (op k : Dyadic) → step ≡ p.Dyadic l op r → op ≡ k → d ≡ l.value → e ≡ r.value
+    → IsMade step (dyadic (step_view d) (dyadic_view k) (step_view e)) (suc (max (step_height d) (step_height e))) (λ ps. IsSound ps d × IsSound ps e)
+dyadic_made step l r d e op k is at left right = record {
+  view = ap step_view is ∙ (λ i. dyadic (step_view (sym left i)) (dyadic_view (at i)) (step_view (sym right i)));
+  height = ap step_height is ∙ (λ i. suc (max (step_height (sym left i)) (step_height (sym right i))));
+  sound = λ ps h.
+      let both : IsSound ps l.value × IsSound ps r.value = subst (IsSound ps) is h in
+      (subst (IsSound ps) (sym left) both.0, subst (IsSound ps) (sym right) both.1);
+}
 
 module _ (step : Step) (v : Vec Step) (xs : List Step) (parts : xs ≡ v.items) where
   pub select_made : (selector : Selector) → step ≡ p.Select selector v

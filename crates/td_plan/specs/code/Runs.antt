@@ -1,7 +1,8 @@
 -- What plans give, and steps inside a loop over tuples, as the code has it (this project's own).
-use Rattle.std.specs.Prelude.{ℕ, List, Bool, Result, map}
+use Rattle.std.specs.Borrow.{Bor}
+use Rattle.std.specs.Prelude.{ℕ, List, Bool, Option, Some, None, Result, map, option_map}
 use Rattle.td_check.specs.Scopes.{Scope}
-use Rattle.td_eval.specs.OperatorValues.{truth_value}
+use Rattle.td_eval.specs.OperatorValues.{truth_value, value_of_type}
 use Rattle.td_eval.specs.UnfailingValues.{GivesValues}
 use Rattle.td_eval.specs.Worlds.{World}
 use Rattle.td_plan.specs.declared.plan.step.Step.{Step}
@@ -9,7 +10,10 @@ use Rattle.td_plan.specs.Plans.{PlanTree, Slots, plan_columns, plan_value, plan_
 use Rattle.td_plan.specs.PlansOf.{AreInHand, IsPlanFor, outermost}
 use Rattle.td_plan.specs.code.StepViews.{step_view, steps_view}
 use Rattle.td_tree.specs.declared.fault.Fault.{Fault}
-use Rattle.td_tree.specs.Outcomes.{Answers, Outcome, gathered}
+use Rattle.td_tree.specs.Outcomes.{Answers, Outcome, gathered, with_value}
+use Rattle.td_types.specs.Types.{Type'}
+use Rattle.td_types.specs.declared.ty.Ty.{Ty}
+use Rattle.td_types.specs.code.Views.{type_view}
 use Rattle.td_value.specs.code.Views.{values_of}
 use Rattle.td_value.specs.Values.{Tuple, Val}
 
@@ -35,9 +39,18 @@ value_in w s slot step t = plan_value w (with_slot slot (values_of t) s) (step_v
 abbrev pub values_in : World → Slots → ℕ → List Step → List (Tuple → Outcome Val)
 values_in w s slot steps = plan_columns w s slot (steps_view steps)
 
--- the values of a step in further tuples
-abbrev pub all_in : World → Slots → ℕ → Step → List Tuple → Outcome (List Val)
-all_in w s slot step ts = gathered (map (value_in w s slot step) ts)
+-- the type that is asked for, if one is
+abbrev pub type_asked : Option (Bor Ty) → Option Type'
+type_asked ty = option_map (λ t. type_view t.now) ty
+
+-- the outcome, where its value is of the type
+abbrev pub of_type_asked : Option Type' → Outcome Val → Outcome Val
+of_type_asked None o = o
+of_type_asked (Some t) o = with_value o (value_of_type t)
+
+-- the values in tuples, where they are of the type
+abbrev pub all_of_type : Option Type' → (Tuple → Outcome Val) → List Tuple → Outcome (List Val)
+all_of_type ty f ts = gathered (map (λ t. of_type_asked ty (f t)) ts)
 
 -- the truth values of a condition in tuples
 abbrev pub truths_in : World → Slots → ℕ → Step → List Tuple → Outcome (List Bool)

@@ -1,5 +1,5 @@
 //! The value of what stands where the values of WITH's items are in scope.
-ghost use Rattle.std.specs.Prelude.{◌≡◌, ◌<◌, ◌≤◌, IfOk, IfSome};
+ghost use Rattle.std.specs.Prelude.{◌≡◌, ◌<◌, IfOk, IfSome};
 ghost use Rattle.td_eval.specs.Worlds.{World};
 ghost use Rattle.td_plan.specs.Plans.{bound, plan_value, plan_where_bound, slots_before};
 ghost use Rattle.td_plan.specs.code.Bindings.{IsBehind, IsEntered, IsHoisted, IsMemoFrom};
@@ -203,7 +203,7 @@ where
     ) -> Option<Hoisted<'s>>
         requires below { RunsBelow A.world self.now F.pre F.post (height_over step.now) }
         requires ready { IsReadyInside A.world self.now inside.now memo.old (SoundFor step.now) }
-        ensures height { IfSome result (λ h. step_height h.step.now ≤ step_height step.now) }
+        ensures height { IfSome result (λ h. step_height h.step.now < step_height step.now) }
         ensures sound { (ps : Parts) → IsSound ps step.now
             → IfSome result (λ h. IsSound ps h.step.now) }
         ensures kept { KeepsInside A.world self.now inside.now memo.old memo.new (SoundFor step.now)

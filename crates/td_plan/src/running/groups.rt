@@ -41,7 +41,7 @@ where
         let mut causes = Gathering::new();
         let mut values = Vec::with_capacity(self.alloc, groups.len())?;
         for (_, group) in groups {
-            let found = self.values_in_rows(memo, inside, group.rows(), step);
+            let found = self.values_in_rows(memo, inside, group.rows(), None, step);
             causes.collect(&mut values, found)?;
         }
         causes.finish(values)

@@ -6,7 +6,6 @@ ghost use Rattle.td_plan.specs.Plans.{value_or, with_slot};
 ghost use Rattle.td_plan.specs.code.Hands.{cells_lent, cells_of, slots_in, slots_inside, slots_of};
 ghost use Rattle.td_plan.specs.code.Memos.{IsMemo, IsMemoBelow, Parts};
 ghost use Rattle.td_tree.specs.Outcomes.{Answers};
-ghost use Rattle.td_value.specs.code.Views.{values_of};
 
 use crate::running::memo::{Memo, forget};
 use std::alloc::{AllocError, Global};
@@ -40,18 +39,7 @@ pub(crate) struct Batch<'b> {
 }
 
 /// What is found in each of the tuples without causes, if it is in all.
-pub(crate) type Found<T> = Result<Option<Vec<T>>, AllocError>;
-
-/// The value at a place of a tuple.
-#[inline]
-fn value_at(tuple: &Tuple, place: usize) -> Result<Value, Fault>
-    ensures { Answers (λ v. v) result (value_or (slice_get (values_of tuple.now) place)) }
-{
-    match tuple.values().get(place) {
-        Some(value) => Ok(value.try_clone()?),
-        None => Err(Fault::Refused(Cause::NameUnknown)),
-    }
-}
+pub(crate) type Found<T> = Option<Vec<T>>;
 
 /// The tuple in a slot further out.
 #[inline]
@@ -79,10 +67,12 @@ pub(crate) fn tuple_in<'h>(hand: &'h Hand<'_, '_>, slot: usize) -> Option<&'h Tu
 pub(crate) fn attribute(hand: &Hand<'_, '_>, slot: usize, place: usize) -> Result<Value, Fault>
     ensures { Answers (λ v. v) result (value_or (slice_get (slots_of hand.now slot) place)) }
 {
-    match tuple_in(hand, slot) {
-        Some(tuple) => value_at(tuple, place),
-        None => Err(Fault::Refused(Cause::NameUnknown)),
-    }
+    let tuple = tuple_in(hand, slot).ok_or(Fault::Refused(Cause::NameUnknown))?;
+    let value = tuple
+        .values()
+        .get(place)
+        .ok_or(Fault::Refused(Cause::NameUnknown))?;
+    Ok(value.try_clone()?)
 }
 
 /// Where a tuple of a loop is in scope.
@@ -109,11 +99,11 @@ pub(crate) fn hand_of(rows: &[Option<Tuple>]) -> Hand<'_, '_>
     }
 }
 
-/// A tuple again, if there is one.
-fn again(row: &Option<Tuple>) -> Result<Option<Tuple>, AllocError>
-    ensures { IfOk result (λ copy. cells_of copy ≡ cells_of row.now) }
+/// A lent tuple again, if there is one.
+fn lent_again(tuple: Option<&Tuple>) -> Result<Option<Tuple>, AllocError>
+    ensures { IfOk result (λ copy. copy ≡ option_map (λ t. t.now) tuple.entry) }
 {
-    match row {
+    match tuple {
         Some(tuple) => Ok(Some(tuple.try_clone()?)),
         None => Ok(None),
     }
@@ -128,7 +118,7 @@ pub(crate) fn all_again(
 {
     let mut copy = Vec::with_capacity(alloc, rows.len().saturating_add(1))?;
     for row in rows {
-        copy.push(again(row)?)?;
+        copy.push(lent_again(row.as_ref())?)?;
     }
     Ok(copy)
 }
@@ -167,16 +157,6 @@ pub(crate) fn put(
         Ok(())
     } else {
         Ok(rows.push(row)?)
-    }
-}
-
-/// A lent tuple again, if there is one.
-fn lent_again(tuple: Option<&Tuple>) -> Result<Option<Tuple>, AllocError>
-    ensures { IfOk result (λ copy. copy ≡ option_map (λ t. t.now) tuple.entry) }
-{
-    match tuple {
-        Some(tuple) => Ok(Some(tuple.try_clone()?)),
-        None => Ok(None),
     }
 }
 

@@ -194,7 +194,10 @@ where
         let operand = self.run(memo, hand, operand)?;
         let rel = relation_in(&operand)?;
         let inside = entered(self.alloc, memo, hand, slot)?;
-        value_of_aggregate(op, self.values_in_rows(memo, &inside, rel.rows(), value))
+        value_of_aggregate(
+            op,
+            self.values_in_rows(memo, &inside, rel.rows(), None, value),
+        )
     }
 
     /// The tuples of an operand with attributes set, each there before or new.

@@ -56,30 +56,23 @@ fn common_value<'m>(memo: &'m Memo, step: &'m Step) -> Option<&'m Value>
     }
 }
 
-/// Puts the values of the parts into the list, in place of what is there. Answers whether all were
-/// found without causes.
-fn put_parts(
-    memo: &Memo,
-    hand: &Hand<'_, '_>,
-    parts: &[Step],
-    row: &mut Vec<Value>,
-) -> Result<bool, AllocError>
-    ensures { IfOk result (λ b. IsTrue b → (ps : Parts) (w : World) → AreSound ps parts.now
+/// Puts the values of the parts into the list, in place of what is there, if all are found without
+/// causes.
+fn put_parts(memo: &Memo, hand: &Hand<'_, '_>, parts: &[Step], row: &mut Vec<Value>) -> Option<()>
+    ensures { IfSome result (λ _. (ps : Parts) (w : World) → AreSound ps parts.now
         → IsMemo ps w (slots_of hand.now) memo.now
         → gathered (step_values w (slots_of hand.now) parts.now) ≡ Valued row.new.items) }
 {
     row.clear();
     for part in parts {
-        let Some(value) = quick_value(memo, hand, part) else {
-            return Ok(false);
-        };
-        row.push(value.try_clone()?)?;
+        let value = quick_value(memo, hand, part)?.try_clone().ok()?;
+        row.push(value).ok()?;
     }
-    Ok(true)
+    Some(())
 }
 
-/// Puts after the others the tuple that gives the names the values of the parts. Answers whether
-/// these were found without causes. The row is a list in which they are put together.
+/// Puts after the others the tuple that gives the names the values of the parts, if these are found
+/// without causes. The row is a list in which they are put together.
 fn put_tuple(
     memo: &Memo,
     hand: &Hand<'_, '_>,
@@ -87,40 +80,35 @@ fn put_tuple(
     parts: &[Step],
     row: &mut Vec<Value>,
     laid: &mut LaidOut<'_>,
-) -> Result<bool, AllocError>
+) -> Option<()>
     requires distinct { IsTrue (are_distinct names.now) }
     requires places { IsPermutation (numbered_sources 0 names.now) laid.old.0 }
-    ensures layout { IfOk result (λ b. IsTrue b → laid.new.0 ≡ laid.old.0) }
-    ensures put { IfOk result (λ b. IsTrue b → IsPutInHand memo.now (slots_of hand.now) names.now
-        parts.now laid.old.1 laid.new.1) }
+    ensures layout { IfSome result (λ _. laid.new.0 ≡ laid.old.0) }
+    ensures put { IfSome result (λ _. IsPutInHand memo.now (slots_of hand.now) names.now parts.now
+        laid.old.1 laid.new.1) }
 {
-    if !put_parts(memo, hand, parts, row)? {
-        return Ok(false);
-    }
+    put_parts(memo, hand, parts, row)?;
     if row.len() != names.len() {
-        return Ok(false);
+        return None;
     }
-    laid.put(row, &[])?;
-    Ok(true)
+    laid.put(row, &[]).ok()
 }
 
 /// The tuples that give the names the values of the parts in each of the rows.
 fn tuples_of(batch: &Batch<'_>, names: &[Name], parts: &[Step], layout: &Layout) -> Found<Tuple>
     requires distinct { IsTrue (are_distinct names.now) }
     requires places { IsPermutation (numbered_sources 0 names.now) layout.now }
-    ensures { IfOk result (λ found. (ps : Parts) (w : World) → AreSound ps parts.now
+    ensures { (ps : Parts) (w : World) → AreSound ps parts.now
         → IsMemoInside ps w batch.now.inside.now batch.now.memo.now → AreQuick tuple_value
-        (tuple_inside w batch.now.inside.now names.now parts.now) batch.now.rows.now found) }
+        (tuple_inside w batch.now.inside.now names.now parts.now) batch.now.rows.now result }
 {
-    let mut laid = LaidOut::new(batch.alloc, layout, batch.rows.len())?;
-    let mut values = Vec::with_capacity(batch.alloc, names.len())?;
+    let mut laid = LaidOut::new(batch.alloc, layout, batch.rows.len()).ok()?;
+    let mut values = Vec::with_capacity(batch.alloc, names.len()).ok()?;
     for row in batch.rows {
         let hand = hand_inside(batch.inside, row);
-        if !put_tuple(batch.memo, &hand, names, parts, &mut values, &mut laid)? {
-            return Ok(None);
-        }
+        put_tuple(batch.memo, &hand, names, parts, &mut values, &mut laid)?;
     }
-    Ok(Some(laid.finish(batch.alloc)?))
+    laid.finish(batch.alloc).ok()
 }
 
 /// The tuples, hashed.
@@ -137,20 +125,19 @@ fn hashed_tuples(alloc: Global, rows: &[Tuple]) -> Result<HashSet<Tuple>, AllocE
 
 /// Which of the tuples are members of the relation, if all are of its heading.
 fn members_among(alloc: Global, tuples: &[Tuple], rel: &Rel) -> Found<bool>
-    ensures { IfOk result (λ found. (f : Tuple → Outcome Val) (ts : List Tuple)
-        → AreInRows tuple_value f ts tuples.now
+    ensures { (f : Tuple → Outcome Val) (ts : List Tuple) → AreInRows tuple_value f ts tuples.now
         → AreQuick boolean (λ t. with_value (f t)
-        (λ v. comparison_value comparisons.In v (relation_value rel.now))) ts found) }
+        (λ v. comparison_value comparisons.In v (relation_value rel.now))) ts result }
 {
     if !have_heading(tuples, rel.heading()) {
-        return Ok(None);
+        return None;
     }
-    let members = hashed_tuples(alloc, rel.rows())?;
-    let mut truths = Vec::with_capacity(alloc, tuples.len())?;
+    let members = hashed_tuples(alloc, rel.rows()).ok()?;
+    let mut truths = Vec::with_capacity(alloc, tuples.len()).ok()?;
     for tuple in tuples {
-        truths.push(members.contains(tuple))?;
+        truths.push(members.contains(tuple)).ok()?;
     }
-    Ok(Some(truths))
+    Some(truths)
 }
 
 /// The numbers, hashed.
@@ -212,36 +199,34 @@ fn told_at(members: &[i64], place: usize, number: i64) -> Option<bool>
 /// Which of the numbers are among members that ascend, if the numbers do so too.
 fn merged_memberships(alloc: Global, numbers: &[i64], members: &[i64]) -> Found<bool>
     requires { IsStrictlySortedBy int_cmp members.now }
-    ensures { IfOk result (λ found. IfSome found (λ truths.
-        truths.items ≡ map (λ z. has int_cmp z members.now) numbers.now)) }
+    ensures { IfSome result (λ truths.
+        truths.items ≡ map (λ z. has int_cmp z members.now) numbers.now) }
 {
-    let mut truths = Vec::with_capacity(alloc, numbers.len())?;
+    let mut truths = Vec::with_capacity(alloc, numbers.len()).ok()?;
     let mut place = 0;
     for number in numbers {
         place = place_from(members, place, *number);
-        let Some(told) = told_at(members, place, *number) else {
-            return Ok(None);
-        };
-        truths.push(told)?;
+        let told = told_at(members, place, *number)?;
+        truths.push(told).ok()?;
     }
-    Ok(Some(truths))
+    Some(truths)
 }
 
 /// Which of the numbers are among members that ascend.
-fn numbers_among(alloc: Global, numbers: &[i64], members: &[i64]) -> Result<Vec<bool>, AllocError>
+fn numbers_among(alloc: Global, numbers: &[i64], members: &[i64]) -> Found<bool>
     requires { IsStrictlySortedBy int_cmp members.now }
-    ensures { IfOk result (λ truths.
+    ensures { IfSome result (λ truths.
         truths.items ≡ map (λ z. has int_cmp z members.now) numbers.now) }
 {
-    if let Some(truths) = merged_memberships(alloc, numbers, members)? {
-        return Ok(truths);
+    if let Some(truths) = merged_memberships(alloc, numbers, members) {
+        return Some(truths);
     }
-    let members = hashed_numbers(alloc, members)?;
-    let mut truths = Vec::with_capacity(alloc, numbers.len())?;
+    let members = hashed_numbers(alloc, members).ok()?;
+    let mut truths = Vec::with_capacity(alloc, numbers.len()).ok()?;
     for number in numbers {
-        truths.push(members.contains(number))?;
+        truths.push(members.contains(number)).ok()?;
     }
-    Ok(truths)
+    Some(truths)
 }
 
 /// Whether the heading gives INTEGER to that name, and has no other.
@@ -257,74 +242,64 @@ fn is_one_number(heading: &Heading, name: &Name) -> bool
 /// The truth values of IN the relation, where tuple and relation have one attribute each, and all
 /// that it has are numbers.
 fn number_memberships(batch: &Batch<'_>, names: &[Name], parts: &[Step], rel: &Rel) -> Found<bool>
-    ensures { IfOk result (AreMemberships batch.now names.now parts.now rel.now) }
+    ensures { AreMemberships batch.now names.now parts.now rel.now result }
 {
     let [name] = names else {
-        return Ok(None);
+        return None;
     };
     let [part] = parts else {
-        return Ok(None);
+        return None;
     };
     if !is_one_number(rel.heading(), name) {
-        return Ok(None);
+        return None;
     }
-    let Some(members) = attribute_numbers(batch.alloc, rel.rows(), 0)? else {
-        return Ok(None);
-    };
-    match quick_numbers(batch, part)? {
-        Some(numbers) => Ok(Some(numbers_among(batch.alloc, &numbers, &members)?)),
-        None => Ok(None),
-    }
+    let members = attribute_numbers(batch.alloc, rel.rows(), 0)?;
+    let numbers = quick_numbers(batch, part)?;
+    numbers_among(batch.alloc, &numbers, &members)
 }
 
 /// The truth values of IN the relation, for the tuples that give the names the values of the parts
 /// in each of the rows.
 fn memberships_of(batch: &Batch<'_>, names: &[Name], parts: &[Step], rel: &Rel) -> Found<bool>
-    ensures { IfOk result (AreMemberships batch.now names.now parts.now rel.now) }
+    ensures { AreMemberships batch.now names.now parts.now rel.now result }
 {
-    if let Some(truths) = number_memberships(batch, names, parts, rel)? {
-        return Ok(Some(truths));
+    if let Some(truths) = number_memberships(batch, names, parts, rel) {
+        return Some(truths);
     }
-    let Some(layout) = layout_of(batch.alloc, names)? else {
-        return Ok(None);
-    };
-    match tuples_of(batch, names, parts, &layout)? {
-        Some(tuples) => members_among(batch.alloc, &tuples, rel),
-        None => Ok(None),
-    }
+    let layout = layout_of(batch.alloc, names).ok()??;
+    let tuples = tuples_of(batch, names, parts, &layout)?;
+    members_among(batch.alloc, &tuples, rel)
 }
 
 /// The truth values of IN, where a tuple of parts is looked for in one relation for all rows.
 fn memberships_in(batch: &Batch<'_>, left: &Step, right: &Step) -> Found<bool>
-    ensures { IfOk result (AreComparedIn batch.now left.now comparisons.In right.now) }
+    ensures { AreComparedIn batch.now left.now comparisons.In right.now result }
 {
-    let Some(value) = common_value(batch.memo, right) else {
-        return Ok(None);
-    };
+    let value = common_value(batch.memo, right)?;
     let Node::Rel(rel) = &value.node else {
-        return Ok(None);
+        return None;
     };
     match left {
         Step::Select(selector, parts) => match selector {
             Selector::Tuple(names) => memberships_of(batch, names, parts, rel),
-            _ => Ok(None),
+            _ => None,
         },
-        _ => Ok(None),
+        _ => None,
     }
 }
 
 /// The truth values of a condition that is such an IN.
 pub(crate) fn memberships(batch: &Batch<'_>, condition: &Step) -> Found<bool>
-    ensures { IfOk result (FoundIn boolean batch.now condition.now) }
+    ensures { FoundIn boolean batch.now condition.now result }
 {
     match condition {
         Step::Dyadic(left, op, right) => match op {
             Dyadic::Comparison(op) => match op {
                 Comparison::In => memberships_in(batch, left, right),
-                _ => Ok(None),
+                _ => None,
             },
-            Dyadic::Operator(_) => Ok(None),
+            Dyadic::Operator(_) => None,
         },
-        _ => Ok(None),
+        _ => None,
     }
 }

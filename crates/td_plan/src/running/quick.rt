@@ -122,16 +122,6 @@ pub(crate) fn quick_number(memo: &Memo, hand: &Hand<'_, '_>, step: &Step) -> Opt
     }
 }
 
-// ---- texts
-
-/// The text that is a step's value, lent by the step or a tuple in scope.
-#[inline]
-fn quick_text<'h>(memo: &'h Memo, hand: &'h Hand<'_, '_>, step: &'h Step) -> Option<&'h str>
-    ensures { IsQuickIn (λ t. char t.now) memo.now hand.now step.now result }
-{
-    text_in(quick_value(memo, hand, step))
-}
-
 // ---- truth values
 
 /// The truth value of a comparison of two numbers.
@@ -166,20 +156,6 @@ fn texts_compared(op: Comparison, s: &str, t: &str) -> Option<bool>
     }
 }
 
-/// The truth value of a comparison of steps whose values are texts.
-fn quick_texts(
-    memo: &Memo,
-    hand: &Hand<'_, '_>,
-    left: &Step,
-    op: Comparison,
-    right: &Step,
-) -> Option<bool>
-    ensures { IsComparedIn memo.now hand.now left.now op right.now result }
-{
-    let s = quick_text(memo, hand, left)?;
-    texts_compared(op, s, quick_text(memo, hand, right)?)
-}
-
 /// The truth value of a comparison of steps whose values are numbers or texts.
 #[inline]
 fn quick_comparison(
@@ -191,10 +167,11 @@ fn quick_comparison(
 ) -> Option<bool>
     ensures { IsComparedIn memo.now hand.now left.now op right.now result }
 {
-    match quick_number(memo, hand, left) {
-        None => quick_texts(memo, hand, left, op, right),
-        Some(x) => numbers_compared(op, x, quick_number(memo, hand, right)?),
+    if let Some(x) = quick_number(memo, hand, left) {
+        return numbers_compared(op, x, quick_number(memo, hand, right)?);
     }
+    let s = text_in(quick_value(memo, hand, left))?;
+    texts_compared(op, s, text_in(quick_value(memo, hand, right))?)
 }
 
 /// The truth value that an operator gives of two truth values.

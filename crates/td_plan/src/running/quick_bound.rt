@@ -25,10 +25,7 @@ fn kept_tuple<'m>(memo: &'m Memo, step: &Step) -> Option<&'m Tuple>
         → with_value (step_value w s step.now) (λ v. on_tuple v Valued) ≡ Valued t.now) }
 {
     match step {
-        Step::Once { place, .. } => match tuple_in(lent_answer(memo, *place)?) {
-            Ok(tuple) => Some(tuple),
-            Err(_) => None,
-        },
+        Step::Once { place, .. } => tuple_in(lent_answer(memo, *place)?).ok(),
         _ => None,
     }
 }
@@ -41,13 +38,8 @@ fn put_kept(memo: &Memo, rows: &mut Vec<Option<Tuple>>, slot: usize, item: &Step
         (where_in_slot w (slots_in rows.old.items) slot item.now) rows.new.items memo.now) }
 {
     let tuple = kept_tuple(memo, item)?;
-    let Ok(copy) = tuple.try_clone() else {
-        return None;
-    };
-    let Ok(()) = put(rows, slot, Some(copy)) else {
-        return None;
-    };
-    Some(())
+    let copy = tuple.try_clone().ok()?;
+    put(rows, slot, Some(copy)).ok()
 }
 
 /// Puts the tuples that are the values of steps into slots from this one on, if they are kept.
@@ -84,15 +76,10 @@ pub(crate) fn quick_behind(
         (steps_view items.now) (AreSound ps items.now) inner) }
 {
     let inside = batch.inside;
-    if inside.slot < reach {
+    if inside.slot < reach || slot <= inside.slot {
         return None;
     }
-    if slot <= inside.slot {
-        return None;
-    }
-    let Ok(mut outer) = again_before(batch.alloc, &inside.outer, slot) else {
-        return None;
-    };
+    let mut outer = again_before(batch.alloc, &inside.outer, slot).ok()?;
     put_all_kept(batch.memo, &mut outer, slot, items)?;
     Some(Inside {
         slot: inside.slot,

@@ -1,6 +1,6 @@
 //! Numbers that a step gives in all tuples of a relation, found without causes. Where one is not
 //! found so, there is nothing.
-ghost use Rattle.std.specs.Prelude.{◌≡◌, IfOk, List, length};
+ghost use Rattle.std.specs.Prelude.{◌≡◌, List, length};
 ghost use Rattle.std.specs.List.{slice_get};
 ghost use Rattle.td_eval.specs.OperatorValues.{operator_value};
 ghost use Rattle.td_plan.specs.Plans.{value_or};
@@ -21,104 +21,84 @@ use td_value::value::Value;
 
 /// A number that was found once, for each tuple.
 fn same_numbers(alloc: Global, found: Option<&Value>, count: usize) -> Found<i64>
-    ensures { IfOk result (λ numbers. (o : Outcome Val) (ts : List Tuple)
+    ensures { (o : Outcome Val) (ts : List Tuple)
         → IsQuick (λ v. v.now) found.entry o → length ts ≡ count
-        → AreQuick integer (λ t. o) ts numbers) }
+        → AreQuick integer (λ t. o) ts result }
 {
-    match number_in(found) {
-        Some(z) => Ok(Some(vec![in alloc; z; count]?)),
-        None => Ok(None),
-    }
+    let z = number_in(found)?;
+    vec![in alloc; z; count].ok()
 }
 
 /// The numbers that are an attribute of the tuples.
 pub(crate) fn attribute_numbers(alloc: Global, rows: &[Tuple], place: usize) -> Found<i64>
-    ensures { IfOk result
-        (AreQuick integer (λ t. value_or (slice_get (values_of t) place)) rows.now) }
+    ensures { AreQuick integer (λ t. value_or (slice_get (values_of t) place)) rows.now result }
 {
-    let mut numbers = Vec::with_capacity(alloc, rows.len())?;
+    let mut numbers = Vec::with_capacity(alloc, rows.len()).ok()?;
     for row in rows {
-        let Some(z) = number_in(lent_value(row, place)) else {
-            return Ok(None);
-        };
-        numbers.push(z)?;
+        let z = number_in(lent_value(row, place))?;
+        numbers.push(z).ok()?;
     }
-    Ok(Some(numbers))
+    Some(numbers)
 }
 
 /// The numbers that a step gives, by each tuple alone.
 fn single_numbers(batch: &Batch<'_>, step: &Step) -> Found<i64>
-    ensures { IfOk result (FoundIn integer batch.now step.now) }
+    ensures { FoundIn integer batch.now step.now result }
 {
-    let mut numbers = Vec::with_capacity(batch.alloc, batch.rows.len())?;
+    let mut numbers = Vec::with_capacity(batch.alloc, batch.rows.len()).ok()?;
     for row in batch.rows {
         let hand = hand_inside(batch.inside, row);
-        let Some(z) = quick_number(batch.memo, &hand, step) else {
-            return Ok(None);
-        };
-        numbers.push(z)?;
+        let z = quick_number(batch.memo, &hand, step)?;
+        numbers.push(z).ok()?;
     }
-    Ok(Some(numbers))
+    Some(numbers)
 }
 
 /// The numbers that an operator gives of two at each place.
 fn numbers_of_both(alloc: Global, op: Operator, left: &[i64], right: &[i64]) -> Found<i64>
-    ensures { IfOk result (AreOfBoth integer integer (operator_value op) left.now right.now) }
+    ensures { AreOfBoth integer integer (operator_value op) left.now right.now result }
 {
     if left.len() != right.len() {
-        return Ok(None);
+        return None;
     }
-    let mut numbers = Vec::with_capacity(alloc, right.len())?;
+    let mut numbers = Vec::with_capacity(alloc, right.len()).ok()?;
     for place in 0..right.len() {
-        let x = left[place];
-        let y = right[place];
-        let Some(z) = numbers_operated(op, x, y) else {
-            return Ok(None);
-        };
-        numbers.push(z)?;
+        let z = numbers_operated(op, left[place], right[place])?;
+        numbers.push(z).ok()?;
     }
-    Ok(Some(numbers))
+    Some(numbers)
 }
 
 /// The numbers that a step gives in tuples.
 pub(crate) fn quick_numbers(batch: &Batch<'_>, step: &Step) -> Found<i64>
-    ensures { IfOk result (FoundIn integer batch.now step.now) }
+    ensures { FoundIn integer batch.now step.now result }
 {
     match step {
         Step::Constant(value) => same_numbers(batch.alloc, Some(value), batch.rows.len()),
+        Step::Attribute { slot, place } if *slot == batch.inside.slot => {
+            attribute_numbers(batch.alloc, batch.rows, *place)
+        }
         Step::Attribute { slot, place } => {
-            if *slot == batch.inside.slot {
-                attribute_numbers(batch.alloc, batch.rows, *place)
-            } else {
-                let found = outer_value(&batch.inside.outer, *slot, *place);
-                same_numbers(batch.alloc, found, batch.rows.len())
-            }
+            let found = outer_value(&batch.inside.outer, *slot, *place);
+            same_numbers(batch.alloc, found, batch.rows.len())
         }
         Step::Dyadic(left, op, right) => match op {
-            Dyadic::Operator(op) => match quick_numbers(batch, left)? {
-                None => Ok(None),
-                Some(left) => match quick_numbers(batch, right)? {
-                    None => Ok(None),
-                    Some(right) => numbers_of_both(batch.alloc, *op, &left, &right),
-                },
-            },
-            Dyadic::Comparison(_) => Ok(None),
+            Dyadic::Operator(op) => {
+                let left = quick_numbers(batch, left)?;
+                let right = quick_numbers(batch, right)?;
+                numbers_of_both(batch.alloc, *op, &left, &right)
+            }
+            Dyadic::Comparison(_) => None,
         },
         Step::Bound {
             slot,
             reach,
             items,
             value,
-        } => match quick_behind(batch, *slot, *reach, items) {
-            None => Ok(None),
-            Some(inner) => quick_numbers(
-                &Batch {
-                    inside: &inner,
-                    ..*batch
-                },
-                value,
-            ),
-        },
+        } => {
+            let inside = &quick_behind(batch, *slot, *reach, items)?;
+            quick_numbers(&Batch { inside, ..*batch }, value)
+        }
         Step::Once { reach, part, .. } if batch.inside.slot < *reach => quick_numbers(batch, part),
         _ => single_numbers(batch, step),
     }

@@ -2,14 +2,16 @@
 ghost use Rattle.std.specs.Prelude.{◌≡◌, length};
 ghost use Rattle.td_algebra.specs.Columns.{columns_view};
 ghost use Rattle.td_eval.specs.code.NewColumns.{named_columns};
-ghost use Rattle.td_eval.specs.OperatorValues.{column_values, truth_value};
+ghost use Rattle.td_eval.specs.OperatorValues.{truth_value};
 ghost use Rattle.td_plan.specs.code.Evaluators.{IsReadyAt, IsReadyInside, KeepsFor, KeepsInside};
 ghost use Rattle.td_plan.specs.code.Evaluators.{Runs, RunsBelow, SoundFor, SoundForAll};
 ghost use Rattle.td_plan.specs.code.Evaluators.{height_over, height_over_all};
-ghost use Rattle.td_plan.specs.code.Runs.{all_in, step_value, truths_in, value_in, values_in};
+ghost use Rattle.td_plan.specs.code.Runs.{all_of_type, of_type_asked, step_value, truths_in};
+ghost use Rattle.td_plan.specs.code.Runs.{type_asked, value_in, values_in};
 ghost use Rattle.td_plan.specs.code.StepViews.{step_view};
-ghost use Rattle.td_tree.specs.Outcomes.{Answers, gathered};
-ghost use Rattle.td_types.specs.code.Views.{pairs_view, type_view};
+ghost use Rattle.td_tree.specs.Outcomes.{Answers, Outcome, gathered};
+ghost use Rattle.td_types.specs.code.Views.{pairs_view};
+ghost use Rattle.td_value.specs.Values.{Val};
 
 use crate::plan::step::Step;
 use crate::running::evaluator::{Evaluator, InWorld};
@@ -25,6 +27,18 @@ use td_tree::name::Name;
 use td_types::ty::Ty;
 use td_value::tuple::Tuple;
 use td_value::value::Value;
+
+/// What was answered, where it is of the type, if one is given.
+#[inline]
+fn of_type_asked(ty: Option<&Ty>, answer: Result<Value, Fault>) -> Result<Value, Fault>
+    ensures { (o : Outcome Val) → Answers (λ v. v) answer o
+        → Answers (λ v. v) result (of_type_asked (type_asked ty.entry) o) }
+{
+    match ty {
+        Some(ty) => value_of_its_type(ty, answer),
+        None => answer,
+    }
+}
 
 impl<A: InWorld, F> Evaluator<'_, A, F>
 where
@@ -129,41 +143,9 @@ where
         causes.finish(truths)
     }
 
-    /// The truth values of a condition in tuples. Where these are many, it is asked in the first,
-    /// so that its parts are kept, and then looked for in all of them at once.
-    #[inline(never)]
-    fn truths_asked(
-        &self,
-        memo: &mut Memo,
-        inside: &Inside,
-        rows: &[Tuple],
-        condition: &Step,
-    ) -> Result<Vec<bool>, Fault>
-        requires below { RunsBelow A.world self.now F.pre F.post (height_over condition.now) }
-        requires ready { IsReadyInside A.world self.now inside.now memo.old (SoundFor
-            condition.now) }
-        ensures { KeepsInside A.world self.now inside.now memo.old memo.new (SoundFor condition.now)
-            (λ w s k. Answers (λ m. m.items) result (truths_in w s k condition.now rows.now)) }
-    {
-        if rows.len() < FEWEST {
-            return self.truths_by_row(memo, inside, rows, condition);
-        }
-        let _ = self.truth_in_row(memo, inside, &rows[0], condition);
-        let alloc = self.alloc;
-        let batch = Batch {
-            alloc,
-            memo: &*memo,
-            inside,
-            rows,
-        };
-        match quick_truths(&batch, condition)? {
-            Some(truths) => Ok(truths),
-            None => self.truths_by_row(memo, inside, rows, condition),
-        }
-    }
-
     /// The truth values of a condition in the tuples of a loop. Items of WITH that do not name
-    /// these tuples are put in scope before.
+    /// these tuples are put in scope before. Where the tuples are many, the condition is asked in
+    /// the first, so that its parts are kept, and then looked for in all of them at once.
     #[inline(never)]
     pub(crate) fn truths(
         &self,
@@ -178,103 +160,53 @@ where
         ensures { KeepsInside A.world self.now inside.now memo.old memo.new (SoundFor condition.now)
             (λ w s k. Answers (λ m. m.items) result (truths_in w s k condition.now rows.now)) }
     {
-        match self.hoisted_loop(memo, inside, rows, condition) {
-            Some(hoisted) => self.truths_asked(memo, &hoisted.inside, rows, hoisted.step),
-            None => self.truths_asked(memo, inside, rows, condition),
+        if let Some(hoisted) = self.hoisted_loop(memo, inside, rows, condition) {
+            return self.truths(memo, &hoisted.inside, rows, hoisted.step);
+        }
+        if rows.len() < FEWEST {
+            return self.truths_by_row(memo, inside, rows, condition);
+        }
+        let _ = self.truth_in_row(memo, inside, &rows[0], condition);
+        let alloc = self.alloc;
+        let batch = Batch {
+            alloc,
+            memo: &*memo,
+            inside,
+            rows,
+        };
+        match quick_truths(&batch, condition) {
+            Some(truths) => Ok(truths),
+            None => self.truths_by_row(memo, inside, rows, condition),
         }
     }
 
-    /// The values of a step in tuples, one after the other.
-    #[inline(never)]
-    fn values_by_row(
-        &self,
-        memo: &mut Memo,
-        inside: &Inside,
-        rows: &[Tuple],
-        step: &Step,
-    ) -> Result<Vec<Value>, Fault>
-        requires below { RunsBelow A.world self.now F.pre F.post (height_over step.now) }
-        requires ready { IsReadyInside A.world self.now inside.now memo.old (SoundFor step.now) }
-        ensures { KeepsInside A.world self.now inside.now memo.old memo.new (SoundFor step.now)
-            (λ w s k. Answers (λ vs. vs.items) result (all_in w s k step.now rows.now)) }
-    {
-        let mut causes = Gathering::new();
-        let mut values = Vec::with_capacity(self.alloc, rows.len())?;
-        for row in rows {
-            causes.collect(&mut values, self.value_in_row(memo, inside, row, step))?;
-        }
-        causes.finish(values)
-    }
-
-    /// The values of a step in the tuples of a loop. Items of WITH that do not name these tuples
-    /// are put in scope before.
+    /// The values of a step in the tuples of a loop, which are of the type, if one is given. Items
+    /// of WITH that do not name these tuples are put in scope before.
     #[inline(never)]
     pub(crate) fn values_in_rows(
         &self,
         memo: &mut Memo,
         inside: &Inside,
         rows: &[Tuple],
+        ty: Option<&Ty>,
         step: &Step,
     ) -> Result<Vec<Value>, Fault>
         requires below { RunsBelow A.world self.now F.pre F.post (height_over step.now) }
         requires ready { IsReadyInside A.world self.now inside.now memo.old (SoundFor step.now) }
         ensures { KeepsInside A.world self.now inside.now memo.old memo.new (SoundFor step.now)
-            (λ w s k. Answers (λ vs. vs.items) result (all_in w s k step.now rows.now)) }
-    {
-        match self.hoisted_loop(memo, inside, rows, step) {
-            Some(hoisted) => self.values_by_row(memo, &hoisted.inside, rows, hoisted.step),
-            None => self.values_by_row(memo, inside, rows, step),
-        }
-    }
-
-    // ---- new attributes
-
-    /// The values of a step in tuples, one after the other, which are of a type.
-    #[inline(never)]
-    fn column_by_row(
-        &self,
-        memo: &mut Memo,
-        inside: &Inside,
-        rows: &[Tuple],
-        ty: &Ty,
-        step: &Step,
-    ) -> Result<Vec<Value>, Fault>
-        requires below { RunsBelow A.world self.now F.pre F.post (height_over step.now) }
-        requires ready { IsReadyInside A.world self.now inside.now memo.old (SoundFor step.now) }
-        ensures { KeepsInside A.world self.now inside.now memo.old memo.new (SoundFor step.now)
-            (λ w s k. Answers (λ vs. vs.items) result (column_values (type_view ty.now) (value_in w
+            (λ w s k. Answers (λ vs. vs.items) result (all_of_type (type_asked ty.entry) (value_in w
             s k step.now) rows.now)) }
     {
+        if let Some(hoisted) = self.hoisted_loop(memo, inside, rows, step) {
+            return self.values_in_rows(memo, &hoisted.inside, rows, ty, hoisted.step);
+        }
         let mut causes = Gathering::new();
         let mut values = Vec::with_capacity(self.alloc, rows.len())?;
         for row in rows {
-            let value = value_of_its_type(ty, self.value_in_row(memo, inside, row, step));
-            causes.collect(&mut values, value)?;
+            let value = self.value_in_row(memo, inside, row, step);
+            causes.collect(&mut values, of_type_asked(ty, value))?;
         }
         causes.finish(values)
-    }
-
-    /// The values of a step in the tuples of a loop, which are of a type. Items of WITH that do
-    /// not name these tuples are put in scope before.
-    #[inline(never)]
-    fn column(
-        &self,
-        memo: &mut Memo,
-        inside: &Inside,
-        rows: &[Tuple],
-        ty: &Ty,
-        step: &Step,
-    ) -> Result<Vec<Value>, Fault>
-        requires below { RunsBelow A.world self.now F.pre F.post (height_over step.now) }
-        requires ready { IsReadyInside A.world self.now inside.now memo.old (SoundFor step.now) }
-        ensures { KeepsInside A.world self.now inside.now memo.old memo.new (SoundFor step.now)
-            (λ w s k. Answers (λ vs. vs.items) result (column_values (type_view ty.now) (value_in w
-            s k step.now) rows.now)) }
-    {
-        match self.hoisted_loop(memo, inside, rows, step) {
-            Some(hoisted) => self.column_by_row(memo, &hoisted.inside, rows, ty, hoisted.step),
-            None => self.column_by_row(memo, inside, rows, ty, step),
-        }
     }
 
     /// The new attributes with their values in the tuples of a loop.
@@ -298,7 +230,7 @@ where
         let mut columns = Vec::with_capacity(self.alloc, steps.len())?;
         for (place, step) in steps.iter().enumerate() {
             let (name, ty) = &attributes[place];
-            let values = self.column(memo, inside, rows, ty, step);
+            let values = self.values_in_rows(memo, inside, rows, Some(ty), step);
             causes.collect(&mut columns, named_column(name, ty, values))?;
         }
         causes.finish(columns)

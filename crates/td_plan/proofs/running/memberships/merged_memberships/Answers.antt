@@ -4,6 +4,7 @@ use Rattle.std.proofs.lemmas.List.{get_or_default, map-append, take_all, take_mo
 use Rattle.std.specs.Ordering.{int_cmp}
 use mir.Syntax.{w64}
 use Rattle.td_value.specs.Sets.{has}
+use Rattle.td_plan.proofs.Granted.{pushed}
 use Rattle.td_plan.proofs.running.memberships.merged_memberships.Goals as goal
 
 pub loop-number-preserved : goal.loop-number-preserved
@@ -15,8 +16,8 @@ loop-number-preserved c =
     let next = take_more numbers i z c.loop-number-test.true ∙ ap (λ y. take i numbers ++ y ∷ [])
     (get_or_default numbers i z (pos 0) c.loop-number-test.true) in
     let fits : FitsSigned w64 z = search rules in
-    let found : c.in-Some.told ≡ among z = c.in-Some.ensures ∙ ap among (to_z-of_z w64 z fits) in
-    c.in_ok-push.ensures.items ∙ (λ j. c.loop-number.invariant j ++ found j ∷ [])
+    let found : c.in_ok-told.told ≡ among z = c.in_ok-told.ensures ∙ ap among (to_z-of_z w64 z fits) in
+    pushed _ _ c.in_ok-ok.ensures.variant c.push.ensures.items ∙ (λ j. c.loop-number.invariant j ++ found j ∷ [])
     ∙ sym (map-append among (take i numbers) (z ∷ [])) ∙ ap (map among) (sym next)
 
 pub returns : goal.returns

@@ -2,11 +2,10 @@ use Rattle.std.proofs.Common.{◌≡◌, ◌∙◌, ◌∷◌, [], arith, subst,
 use Rattle.std.specs.List.{slice_get}
 use Rattle.td_eval.specs.OperatorValues.{comparison_value}
 use Rattle.td_plan.proofs.Memberships.{numbers_ascend, numbers_in_rows, one_item, rows_of_one}
-use Rattle.td_plan.proofs.QuickRows.{found_in}
 use Rattle.td_plan.proofs.SoundSteps.{sound_at}
 use Rattle.td_plan.specs.Plans.{value_or}
 use Rattle.td_plan.specs.code.Memberships.{tuple_inside}
-use Rattle.td_plan.specs.code.Quick.{AreInRows}
+use Rattle.td_plan.specs.code.Quick.{AreInRows, AreQuick}
 use Rattle.td_plan.specs.code.QuickInside.{value_inside}
 use Rattle.td_tree.specs.declared.operator.Comparison.TheVariants as comparisons
 use Rattle.td_tree.specs.Outcomes.{with_value}
@@ -20,36 +19,31 @@ numbers_among-requires c =
     let rel = c.args.rel.now in
     let name = c.name-item.result in
     let f = λ (t : Tuple). value_or (slice_get (values_of t) 0) in
-    let ys = c.deref-in-Some-2.result.now in
+    let ys = c.deref-2.result.now in
     let headed : rel.heading ≡ (name, types.integer) ∷ [] = sym c.heading.ensures ∙ c.is_one_number.ensures c.if-not-is_one_number.false in
     let members : AreInRows integer f rel.body ys =
-    subst (λ xs. AreInRows integer f xs ys) c.rows.ensures.rows
-    (found_in integer f c.rows.result.now c.in_ok-members.field-0 c.in-Some.members c.in-Some.is c.in_ok-members.ensures ys c.deref-in-Some-2.ensures.value) in
+    subst (λ xs. AreInRows integer f xs ys) c.rows.ensures.rows (subst (AreInRows integer f c.rows.result.now) (sym c.deref-2.ensures.value) c.in_ok-members.ensures) in
     numbers_ascend name ys (subst IsAscendingBody (rows_of_one name rel.heading rel.body ys headed c.rows.ensures.headed members) c.rows.ensures.ascending)
 
-pub returns-in-Some-2 : goal.returns-in-Some-2
-returns-in-Some-2 c = λ ps w sound m.
+pub returns : goal.returns
+returns c = λ ps w sound m.
     let inside = c.args.batch.now.inside.now in
     let ts = c.args.batch.now.rows.now in
     let rel = c.args.rel.now in
     let name = c.name-item.result in
     let part = c.part-item.result in
     let f = λ (t : Tuple). value_or (slice_get (values_of t) 0) in
-    let truths = c.in_ok-numbers_among-in-Some-2.field-0.items in
+    let found = c.numbers_among.result in
     let k = λ (v : Val). comparison_value comparisons.In v (relation_value rel) in
     let names : c.args.names.now ≡ name ∷ [] = one_item c.args.names.now name c.in-len1.len_at_least c.in-len1.len_below c.name-item.is in
     let parts : c.args.parts.now ≡ part ∷ [] = one_item c.args.parts.now part c.in-len1-parts.len_at_least c.in-len1-parts.len_below c.part-item.is in
     let headed : rel.heading ≡ (name, types.integer) ∷ [] = sym c.heading.ensures ∙ c.is_one_number.ensures c.if-not-is_one_number.false in
-    let ys = c.deref-in-Some-2.result.now in
-    let zs = c.deref.result.now in
+    let ys = c.deref-2.result.now in
     let members : AreInRows integer f rel.body ys =
-    subst (λ xs. AreInRows integer f xs ys) c.rows.ensures.rows
-    (found_in integer f c.rows.result.now c.in_ok-members.field-0 c.in-Some.members c.in-Some.is c.in_ok-members.ensures ys c.deref-in-Some-2.ensures.value) in
+    subst (λ xs. AreInRows integer f xs ys) c.rows.ensures.rows (subst (AreInRows integer f c.rows.result.now) (sym c.deref-2.ensures.value) c.in_ok-members.ensures) in
     let body = rows_of_one name rel.heading rel.body ys headed c.rows.ensures.headed members in
     let sound_part = sound_at ps c.args.parts.now 0 part (omega (arith, c.in-len1-parts.len_at_least)) c.part-item.is sound in
-    let numbers : AreInRows integer (value_inside w inside part) ts zs =
-    found_in integer (value_inside w inside part) ts c.in_ok-numbers.field-0 c.in-Some-2.numbers c.in-Some-2.is
-    (c.in_ok-numbers.ensures ps w sound_part m) zs c.deref.ensures.value in
-    subst (λ ns. AreInRows boolean (λ t. with_value (tuple_inside w inside ns c.args.parts.now t) k) ts truths) (sym names)
-    (subst (λ xs. AreInRows boolean (λ t. with_value (tuple_inside w inside (name ∷ []) xs t) k) ts truths) (sym parts)
-    (numbers_in_rows name part w inside rel ts zs ys truths headed body numbers c.in_ok-numbers_among-in-Some-2.ensures))
+    let numbers = subst (AreInRows integer (value_inside w inside part) ts) (sym c.deref.ensures.value) (c.in_ok-numbers.ensures ps w sound_part m) in
+    subst (λ ns. AreQuick boolean (λ t. with_value (tuple_inside w inside ns c.args.parts.now t) k) ts found) (sym names)
+    (subst (λ xs. AreQuick boolean (λ t. with_value (tuple_inside w inside (name ∷ []) xs t) k) ts found) (sym parts)
+    (numbers_in_rows name part w inside rel ts c.deref.result.now ys found headed body numbers c.numbers_among.ensures))

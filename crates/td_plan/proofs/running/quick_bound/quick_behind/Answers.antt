@@ -1,4 +1,5 @@
 use Rattle.std.proofs.Common.{◌∙◌, ◌≡◌, ap, arith, refl, subst, sym}
+use Rattle.td_plan.proofs.Granted.{granted}
 use Rattle.td_plan.proofs.Hoisting.{hoisted_value, memo_hoisted}
 use Rattle.td_plan.proofs.SlotLaws.{agree_before}
 use Rattle.td_plan.specs.Plans.{plan_where_bound, slots_before}
@@ -18,8 +19,8 @@ returns c = λ ps w sound apart m.
     let items = steps_view c.args.items.now in
     let past = c.if-inside-reach.false in
     let order = c.if-slot-inside.false in
-    let here : slots_in c.in-Ok.outer.items ≡ slots_before slot s = c.in-Ok.ensures ∙ ap (λ rs. slots_before slot (slots_in rs)) c.deref.ensures.value in
-    let below : IsMemoBelow ps w slot (slots_in c.in-Ok.outer.items) memo =
+    let here : slots_in c.in_ok-outer.outer.items ≡ slots_before slot s = granted c.again_before.result c.in_ok-outer.outer _ c.in_ok-outer.ensures.value c.again_before.ensures ∙ ap (λ rs. slots_before slot (slots_in rs)) c.deref.ensures.value in
+    let below : IsMemoBelow ps w slot (slots_in c.in_ok-outer.outer.items) memo =
     λ u agree. m u (λ j l. agree_before slot s j (omega (arith, l, order)) ∙ ap (λ t. t j) (sym here) ∙ agree j (omega (arith, l, order))) in
     let a = c.in_ok-put_all_kept.ensures ps w sound below in
     let rows = slots_in c.put_all_kept.new.rows.items in

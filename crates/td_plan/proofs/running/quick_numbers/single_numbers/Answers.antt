@@ -1,10 +1,10 @@
-use Rattle.std.proofs.Common.{◌∙◌, FitsSigned, ap, map, rules, subst, sym}
+use Rattle.std.proofs.Common.{◌∙◌, FitsSigned, Some, ap, map, rules, sym}
 use Rattle.std.proofs.lemmas.Int.{to_z-of_z}
 use Rattle.std.proofs.lemmas.List.{take_all}
 use mir.Syntax.{w64}
+use Rattle.td_plan.proofs.Granted.{pushed}
 use Rattle.td_plan.proofs.QuickRows.{one_more, quick_inside}
 use Rattle.td_plan.specs.code.Hands.{slots_of}
-use Rattle.td_plan.specs.code.Quick.{IsQuick}
 use Rattle.td_plan.specs.code.QuickInside.{value_inside}
 use Rattle.td_value.specs.Values.{integer}
 use Rattle.td_plan.proofs.running.quick_numbers.single_numbers.Goals as goal
@@ -12,11 +12,11 @@ use Rattle.td_plan.proofs.running.quick_numbers.single_numbers.Goals as goal
 pub loop-row-preserved : goal.loop-row-preserved
 loop-row-preserved c = λ ps w sound m.
     let f = value_inside w c.args.batch.now.inside.now c.args.step.now in
-    let fits : FitsSigned w64 c.in-Some.z = search rules in
-    rw (c.in_ok-push.ensures.items, to_z-of_z w64 c.in-Some.z fits)
-    (one_more integer f c.args.batch.now.rows.now c.loop-row.row-index c.row-item.result c.loop-row.numbers.items c.in-Some.z c.loop-row-test.true c.row-item.is (c.loop-row.invariant ps w sound m)
-    (subst (λ found. IsQuick integer found (f c.row-item.result)) c.in-Some.is (quick_inside integer c.quick_number.result w c.args.batch.now.inside.now c.row-item.result (slots_of c.hand_inside-hand.result) c.args.step.now c.args.batch.now.memo.now ps
-    c.hand_inside-hand.ensures m (λ n. c.quick_number.ensures ps w sound n))))
+    let fits : FitsSigned w64 c.in_ok-z.z = search rules in
+    rw (pushed _ _ c.in_ok-ok.ensures.variant c.push.ensures.items, to_z-of_z w64 c.in_ok-z.z fits)
+    (one_more integer f c.args.batch.now.rows.now c.loop-row.row-index c.row-item.result c.loop-row.numbers.items c.in_ok-z.z c.loop-row-test.true c.row-item.is (c.loop-row.invariant ps w sound m)
+    (quick_inside integer (Some c.in_ok-z.z) w c.args.batch.now.inside.now c.row-item.result (slots_of c.hand_inside-hand.result) c.args.step.now c.args.batch.now.memo.now ps
+    c.hand_inside-hand.ensures m (λ n. c.in_ok-z.ensures ps w sound n)))
 
 pub returns : goal.returns
 returns c = λ ps w sound m.

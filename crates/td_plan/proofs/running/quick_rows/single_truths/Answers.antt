@@ -1,8 +1,8 @@
-use Rattle.std.proofs.Common.{◌∙◌, ap, map, subst, sym}
+use Rattle.std.proofs.Common.{◌∙◌, Some, ap, map, sym}
 use Rattle.std.proofs.lemmas.List.{take_all}
+use Rattle.td_plan.proofs.Granted.{pushed}
 use Rattle.td_plan.proofs.QuickRows.{one_more, quick_inside}
 use Rattle.td_plan.specs.code.Hands.{slots_of}
-use Rattle.td_plan.specs.code.Quick.{IsQuick}
 use Rattle.td_plan.specs.code.QuickInside.{value_inside}
 use Rattle.td_value.specs.Values.{boolean}
 use Rattle.td_plan.proofs.running.quick_rows.single_truths.Goals as goal
@@ -10,10 +10,10 @@ use Rattle.td_plan.proofs.running.quick_rows.single_truths.Goals as goal
 pub loop-row-preserved : goal.loop-row-preserved
 loop-row-preserved c = λ ps w sound m.
     let f = value_inside w c.args.batch.now.inside.now c.args.condition.now in
-    rw (c.in_ok-push.ensures.items)
-    (one_more boolean f c.args.batch.now.rows.now c.loop-row.row-index c.row-item.result c.loop-row.truths.items c.in-Some.truth c.loop-row-test.true c.row-item.is (c.loop-row.invariant ps w sound m)
-    (subst (λ found. IsQuick boolean found (f c.row-item.result)) c.in-Some.is (quick_inside boolean c.quick_truth.result w c.args.batch.now.inside.now c.row-item.result (slots_of c.hand_inside-hand.result) c.args.condition.now c.args.batch.now.memo.now ps
-    c.hand_inside-hand.ensures m (λ n. c.quick_truth.ensures ps w sound n))))
+    rw (pushed _ _ c.in_ok-ok.ensures.variant c.push.ensures.items)
+    (one_more boolean f c.args.batch.now.rows.now c.loop-row.row-index c.row-item.result c.loop-row.truths.items c.in_ok-truth.truth c.loop-row-test.true c.row-item.is (c.loop-row.invariant ps w sound m)
+    (quick_inside boolean (Some c.in_ok-truth.truth) w c.args.batch.now.inside.now c.row-item.result (slots_of c.hand_inside-hand.result) c.args.condition.now c.args.batch.now.memo.now ps
+    c.hand_inside-hand.ensures m (λ n. c.in_ok-truth.ensures ps w sound n)))
 
 pub returns : goal.returns
 returns c = λ ps w sound m.

@@ -17,16 +17,16 @@ use Rattle.td_tree.specs.Outcomes.{gathered}
 use Rattle.td_types.specs.declared.ty.Ty.{Ty}
 use Rattle.td_plan.proofs.running.evaluator.Evaluator.columns.Goals as goal
 
-pub column-values-requires-clause-ready : goal.column-values-requires-clause-ready
-column-values-requires-clause-ready g c =
+pub values_in_rows-values-requires-clause-ready : goal.values_in_rows-values-requires-clause-ready
+values_in_rows-values-requires-clause-ready g c =
     let r = c.requires.ready in record {
       parts = r.parts;
       sound = sound_at r.parts c.args.steps.now c.loop-place.place c.index-steps-place.result c.loop-place-test.true c.index-steps-place.is r.sound;
       memo = (c.loop-place.invariant r.parts r.sound r.memo).1;
     }
 
-pub column-values-requires-clause-below : goal.column-values-requires-clause-below
-column-values-requires-clause-below g c = lower (height_part c.args.steps.now c.loop-place.place c.index-steps-place.result c.loop-place-test.true c.index-steps-place.is) c.requires.below
+pub values_in_rows-values-requires-clause-below : goal.values_in_rows-values-requires-clause-below
+values_in_rows-values-requires-clause-below g c = lower (height_part c.args.steps.now c.loop-place.place c.index-steps-place.result c.loop-place-test.true c.index-steps-place.is) c.requires.below
 
 pub loop-place-preserved : goal.loop-place-preserved
 loop-place-preserved g c = λ ps sound m.
@@ -35,7 +35,7 @@ loop-place-preserved g c = λ ps sound m.
     let s = slots_in c.args.inside.now.outer.items in
     let z : (List ℕ × Ty) × Step = (c.index-attributes-place.result, c.index-steps-place.result) in
     let a = l.invariant ps sound m in
-    let b = c.column-values.ensures ps (sound_at ps c.args.steps.now l.place z.1 c.loop-place-test.true c.index-steps-place.is sound) a.1 in (
+    let b = c.values_in_rows-values.ensures ps (sound_at ps c.args.steps.now l.place z.1 c.loop-place-test.true c.index-steps-place.is sound) a.1 in (
       collected_next column_view (column_found w s c.args.inside.now.slot c.args.rows.now) (zip c.args.attributes.now c.args.steps.now) l.place
           (beside_within c.args.attributes.now c.args.steps.now l.place c.requires.lengths c.loop-place-test.true)
           (beside_at c.args.attributes.now c.args.steps.now l.place z.0 z.1 c.requires.lengths c.loop-place-test.true c.index-attributes-place.is c.index-steps-place.is)
@@ -46,7 +46,7 @@ loop-place-preserved g c = λ ps sound m.
 pub returns-in_err-collect : goal.returns-in_err-collect
 returns-in_err-collect g c = λ ps sound m.
     let a = c.loop-place.invariant ps sound m in
-    (search rules, (c.column-values.ensures ps (sound_at ps c.args.steps.now c.loop-place.place c.index-steps-place.result c.loop-place-test.true c.index-steps-place.is sound) a.1).1)
+    (search rules, (c.values_in_rows-values.ensures ps (sound_at ps c.args.steps.now c.loop-place.place c.index-steps-place.result c.loop-place-test.true c.index-steps-place.is sound) a.1).1)
 
 pub returns : goal.returns
 returns g c = λ ps sound m.

@@ -4,7 +4,7 @@ use Rattle.td_plan.specs.code.Memos.{IsSound, Parts}
 use Rattle.td_plan.specs.code.QuickInside.{IsMemoInside, value_inside}
 use Rattle.td_tree.specs.Outcomes.{Valued}
 use Rattle.td_value.specs.Values.{boolean}
-use Rattle.td_plan.proofs.running.quick_rows.truths_by_parts.Given as goal
+use Rattle.td_plan.proofs.running.quick_rows.quick_truths.Given as goal
 
 abbrev pub invariant-loop-rest : goal.invariant-loop-rest
 invariant-loop-rest l =
