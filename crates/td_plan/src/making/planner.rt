@@ -247,8 +247,7 @@ impl<'a, C: Known> Planner<'a, C> {
     {
         match check_expr(&self.scope, expr) {
             Ok(Ty::Rel(heading)) => Ok(Some(heading)),
-            Ok(_) => Ok(None),
-            Err(Fault::Refused(_)) => Ok(None),
+            Ok(_) | Err(Fault::Refused(_)) => Ok(None),
             Err(Fault::Memory) => Err(AllocError),
         }
     }

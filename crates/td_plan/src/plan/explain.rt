@@ -17,34 +17,105 @@ pub fn explain(alloc: Global, plan: &Plan) -> Result<String, AllocError> {
         text: String::new(alloc),
     };
     outline.step(0, &plan.step)?;
+    outline.text.push_str("\n")?;
     Ok(outline.text)
 }
 
-/// The first text and those of the items, with a comma between two items.
-fn with_commas<T, F>(alloc: Global, first: &str, items: &[T], put: F) -> Result<String, AllocError>
+// ---- what stands in a line
+
+/// Puts a word and the items, with a comma between two items.
+fn put_items<T, F>(out: &mut String, word: &str, items: &[T], put: F) -> Result<(), AllocError>
 where
     F: Fn(&mut String, &T) -> Result<(), AllocError>,
     requires { F.IsAlwaysCallable put }
 {
-    let mut text = String::new(alloc);
-    text.push_str(first)?;
+    out.push_str(word)?;
     for (place, item) in items.iter().enumerate() {
-        put_comma(&mut text, place > 0)?;
-        put(&mut text, item)?;
+        put_comma(out, place > 0)?;
+        put(out, item)?;
     }
-    Ok(text)
+    Ok(())
 }
 
-/// The first text and the names.
-fn listed_names(alloc: Global, first: &str, names: &[Name]) -> Result<String, AllocError> {
-    with_commas(alloc, first, names, |out, name| out.push_str(name.as_str()))
+/// Puts a word and the names.
+fn put_names(out: &mut String, word: &str, names: &[Name]) -> Result<(), AllocError> {
+    put_items(out, word, names, |out, name| out.push_str(name.as_str()))
 }
 
-/// The attributes as they are listed.
-fn listed_attributes(alloc: Global, attributes: &Attributes) -> Result<String, AllocError> {
+/// Puts a word and the names of new attributes.
+fn put_columns(out: &mut String, word: &str, columns: &[(Name, Ty)]) -> Result<(), AllocError> {
+    put_items(
+        out,
+        word,
+        columns,
+        |out, column| out.push_str(column.0.as_str()),
+    )
+}
+
+/// Puts a word and the attributes as they are listed.
+fn put_attributes(out: &mut String, word: &str, attributes: &Attributes) -> Result<(), AllocError> {
+    out.push_str(word)?;
     match attributes {
-        Attributes::Only(names) => listed_names(alloc, "", names),
-        Attributes::AllBut(names) => listed_names(alloc, "ALL BUT ", names),
+        Attributes::Only(names) => put_names(out, "", names),
+        Attributes::AllBut(names) => put_names(out, "ALL BUT ", names),
+    }
+}
+
+/// Puts an operator that stands behind its operand.
+fn put_postfix(out: &mut String, op: &Postfix) -> Result<(), AllocError> {
+    match op {
+        Postfix::Project(attributes) => put_attributes(out, "PROJECTION ", attributes),
+        Postfix::Rename(_, renamings) => put_items(out, "RENAME ", renamings, |out, renaming| {
+            write!(
+                out,
+                "{} AS {}",
+                renaming.old.as_str(),
+                renaming.new.as_str()
+            )
+        }),
+        Postfix::Group(_, attributes, name) => {
+            put_attributes(out, "GROUP ", attributes)?;
+            write!(out, " AS {}", name.as_str())
+        }
+        Postfix::Ungroup(name) => write!(out, "UNGROUP {}", name.as_str()),
+        Postfix::Wrap(_, attributes, name) => {
+            put_attributes(out, "WRAP ", attributes)?;
+            write!(out, " AS {}", name.as_str())
+        }
+        Postfix::Unwrap(name) => write!(out, "UNWRAP {}", name.as_str()),
+    }
+}
+
+/// Puts what a step does with what stands under it.
+fn put_step(alloc: Global, out: &mut String, step: &Step) -> Result<(), AllocError> {
+    match step {
+        Step::Constant(value) => out.push_str(value.literal(alloc)?.as_str()),
+        Step::Refused(cause) => write!(out, "REFUSED {}", cause.name()),
+        Step::Attribute { slot, place } => write!(out, "ATTRIBUTE {slot} {place}"),
+        Step::Relvar(name) => write!(out, "RELVAR {}", name.as_str()),
+        Step::LookUp(name, ..) => write!(out, "LOOKUP {}", name.as_str()),
+        Step::Monadic(Monadic::Prefix(Prefix::Not), _) => out.push_str("NOT"),
+        Step::Monadic(Monadic::Prefix(Prefix::Negate), _) => out.push_str("NEGATION"),
+        Step::Monadic(Monadic::Prefix(Prefix::TransitiveClosure), _) => out.push_str("TCLOSE"),
+        Step::Monadic(Monadic::Prefix(Prefix::TupleFrom), _) => out.push_str("TUPLE FROM"),
+        Step::Monadic(Monadic::Extract(name), _) => write!(out, "FROM {}", name.as_str()),
+        Step::Monadic(Monadic::Postfix(op), _) => put_postfix(out, op),
+        Step::Monadic(Monadic::Component(rest), _) => write!(out, "COMPONENT {}", rest.as_str()),
+        Step::Monadic(Monadic::Measure(op), _) => out.push_str(op.keyword().word()),
+        Step::Dyadic(_, op, _) => out.push_str(dyadic_word(*op)),
+        Step::Select(Selector::User(name), _) => out.push_str(name.as_str()),
+        Step::Select(Selector::Relation, _) => out.push_str("RELATION"),
+        Step::Select(Selector::HeadedRelation(_), _) => out.push_str("RELATION OF HEADING"),
+        Step::Select(Selector::Tuple(names), _) => put_names(out, "TUPLE ", names),
+        Step::Restriction(_, _, _, Origin::Written) => out.push_str("RESTRICTION"),
+        Step::Restriction(_, _, _, Origin::Pushed) => out.push_str("RESTRICTION BY PUSH"),
+        Step::Extend(_, columns, ..) => put_columns(out, "EXTEND ", columns),
+        Step::Aggregate(op, ..) => out.push_str(op.keyword().word()),
+        Step::SummarizePer(_, _, columns, ..) => put_columns(out, "SUMMARIZE ", columns),
+        Step::SummarizeBy(_, _, columns, ..) => put_columns(out, "SUMMARIZE ", columns),
+        Step::If(..) => out.push_str("IF"),
+        Step::Bound { .. } => out.push_str("WITH"),
+        Step::Once { .. } => out.push_str("ONCE"),
     }
 }
 
@@ -56,88 +127,81 @@ struct Outline {
 }
 
 impl Outline {
+    /// Begins a line with its blanks.
+    fn begin(&mut self, indent: usize) -> Result<(), AllocError> {
+        if !self.text.is_empty() {
+            self.text.push_str("\n")?;
+        }
+        for _ in 0..indent {
+            self.text.push_str("  ")?;
+        }
+        Ok(())
+    }
+
     /// A step, and below it what it is made of.
     #[cycle(explain)]
     fn step(&mut self, indent: usize, step: &Step) -> Result<(), AllocError> {
-        let inner = indent.saturating_add(1);
+        self.begin(indent)?;
+        put_step(self.alloc, &mut self.text, step)?;
+        self.parts(indent.saturating_add(1), step)
+    }
+
+    /// What a step is made of.
+    #[cycle(explain)]
+    fn parts(&mut self, indent: usize, step: &Step) -> Result<(), AllocError> {
         match step {
-            Step::Constant(value) => {
-                let literal = value.literal(self.alloc)?;
-                self.line(indent, &[literal.as_str()])
+            Step::Constant(_) | Step::Refused(_) | Step::Attribute { .. } | Step::Relvar(_) => {
+                Ok(())
             }
-            Step::Refused(cause) => self.line(indent, &["REFUSED ", cause.name()]),
-            Step::Attribute { slot, place } => {
-                let text = format!(in self.alloc; "ATTRIBUTE {slot} {place}")?;
-                self.line(indent, &[text.as_str()])
+            Step::LookUp(_, _, part) | Step::Monadic(_, part) | Step::Once { part, .. } => {
+                self.step(indent, part)
             }
-            Step::Relvar(name) => self.line(indent, &["RELVAR ", name.as_str()]),
-            Step::LookUp(name, _, part) => {
-                self.line(indent, &["LOOKUP ", name.as_str()])?;
-                self.step(inner, part)
+            Step::Dyadic(left, _, right) => {
+                self.step(indent, left)?;
+                self.step(indent, right)
             }
-            Step::Monadic(op, operand) => {
-                self.monadic(indent, op)?;
-                self.step(inner, operand)
+            Step::Select(_, parts) => self.steps(indent, parts),
+            Step::Restriction(operand, _, condition, _) => {
+                self.step(indent, operand)?;
+                self.one(indent, "CONDITION", condition)
             }
-            Step::Dyadic(left, op, right) => {
-                self.one(indent, dyadic_word(*op), left)?;
-                self.step(inner, right)
+            Step::Extend(operand, _, _, values) => {
+                self.step(indent, operand)?;
+                self.values(indent, values)
             }
-            Step::Select(selector, parts) => {
-                self.selector(indent, selector)?;
-                self.steps(inner, parts)
+            Step::Aggregate(_, operand, _, value) => {
+                self.step(indent, operand)?;
+                self.one(indent, "VALUE", value)
             }
-            Step::Restriction(operand, _, condition, origin) => {
-                self.one(indent, restriction_word(*origin), operand)?;
-                self.one(inner, "CONDITION", condition)
+            Step::SummarizePer(operand, per, _, aggregates, _, values) => {
+                self.step(indent, operand)?;
+                self.one(indent, "PER", per)?;
+                self.aggregates(indent, aggregates, values)
             }
-            Step::Extend(operand, columns, _, values) => {
-                self.columns(indent, "EXTEND ", columns)?;
-                self.step(inner, operand)?;
-                self.list(inner, "VALUES", values)
-            }
-            Step::Aggregate(op, operand, _, value) => {
-                self.one(indent, op.keyword().word(), operand)?;
-                self.one(inner, "VALUE", value)
-            }
-            Step::SummarizePer(operand, per, columns, aggregates, _, values) => {
-                self.columns(indent, "SUMMARIZE ", columns)?;
-                self.step(inner, operand)?;
-                self.one(inner, "PER", per)?;
-                self.aggregates(inner, aggregates, values)
-            }
-            Step::SummarizeBy(operand, by, columns, aggregates, _, values) => {
-                self.columns(indent, "SUMMARIZE ", columns)?;
-                self.step(inner, operand)?;
-                let by = listed_attributes(self.alloc, by)?;
-                self.line(inner, &["BY ", by.as_str()])?;
-                self.aggregates(inner, aggregates, values)
+            Step::SummarizeBy(operand, by, _, aggregates, _, values) => {
+                self.step(indent, operand)?;
+                self.begin(indent)?;
+                put_attributes(&mut self.text, "BY ", by)?;
+                self.aggregates(indent, aggregates, values)
             }
             Step::If(condition, consequent, alternative) => {
-                self.one(indent, "IF", condition)?;
-                self.one(inner, "THEN", consequent)?;
-                self.one(inner, "ELSE", alternative)
+                self.step(indent, condition)?;
+                self.one(indent, "THEN", consequent)?;
+                self.one(indent, "ELSE", alternative)
             }
             Step::Bound { items, value, .. } => {
-                self.list(indent, "WITH", items)?;
-                self.one(inner, "VALUE", value)
+                self.steps(indent, items)?;
+                self.one(indent, "VALUE", value)
             }
-            Step::Once { part, .. } => self.one(indent, "ONCE", part),
         }
     }
 
     /// A word, and a step below it.
     #[cycle(explain)]
     fn one(&mut self, indent: usize, word: &str, step: &Step) -> Result<(), AllocError> {
-        self.line(indent, &[word])?;
+        self.begin(indent)?;
+        self.text.push_str(word)?;
         self.step(indent.saturating_add(1), step)
-    }
-
-    /// A word, and steps below it.
-    #[cycle(explain)]
-    fn list(&mut self, indent: usize, word: &str, steps: &[Step]) -> Result<(), AllocError> {
-        self.line(indent, &[word])?;
-        self.steps(indent.saturating_add(1), steps)
     }
 
     /// Steps, one below the other.
@@ -149,6 +213,14 @@ impl Outline {
         Ok(())
     }
 
+    /// The steps of the values of attributes.
+    #[cycle(explain)]
+    fn values(&mut self, indent: usize, values: &[Step]) -> Result<(), AllocError> {
+        self.begin(indent)?;
+        self.text.push_str("VALUES")?;
+        self.steps(indent.saturating_add(1), values)
+    }
+
     /// The aggregates of a summary, and the steps of what they are of.
     #[cycle(explain)]
     fn aggregates(
@@ -157,127 +229,14 @@ impl Outline {
         aggregates: &[Agg],
         values: &[Step],
     ) -> Result<(), AllocError> {
-        let words = with_commas(self.alloc, "AGGREGATES ", aggregates, |out, aggregate| {
-            out.push_str(aggregate_word(*aggregate))
-        })?;
-        self.line(indent, &[words.as_str()])?;
-        self.list(indent, "VALUES", values)
-    }
-
-    /// A line of a word and the names of new attributes.
-    fn columns(
-        &mut self,
-        indent: usize,
-        word: &str,
-        columns: &[(Name, Ty)],
-    ) -> Result<(), AllocError> {
-        let alloc = self.alloc;
-        let names = with_commas(
-            alloc,
-            word,
-            columns,
-            |out, column| out.push_str(column.0.as_str()),
+        self.begin(indent)?;
+        put_items(
+            &mut self.text,
+            "AGGREGATES ",
+            aggregates,
+            |out, aggregate| { out.push_str(aggregate_word(*aggregate)) },
         )?;
-        self.line(indent, &[names.as_str()])
-    }
-
-    /// The blanks before a line.
-    fn blanks(&mut self, indent: usize) -> Result<(), AllocError> {
-        for _ in 0..indent {
-            self.text.push_str("  ")?;
-        }
-        Ok(())
-    }
-
-    /// A line of texts, one behind the other.
-    fn line(&mut self, indent: usize, texts: &[&str]) -> Result<(), AllocError> {
-        self.blanks(indent)?;
-        for text in texts {
-            self.text.push_str(text)?;
-        }
-        self.text.push_str("\n")
-    }
-
-    /// The line of an operator that stands behind its operand.
-    fn postfix(&mut self, indent: usize, op: &Postfix) -> Result<(), AllocError> {
-        let alloc = self.alloc;
-        match op {
-            Postfix::Project(attributes) => {
-                let attributes = listed_attributes(alloc, attributes)?;
-                self.line(indent, &["PROJECTION ", attributes.as_str()])
-            }
-            Postfix::Rename(_, renamings) => {
-                let renamings = with_commas(alloc, "RENAME ", renamings, |out, renaming| {
-                    write!(
-                        out,
-                        "{} AS {}",
-                        renaming.old.as_str(),
-                        renaming.new.as_str()
-                    )
-                })?;
-                self.line(indent, &[renamings.as_str()])
-            }
-            Postfix::Group(_, attributes, name) => {
-                let attributes = listed_attributes(alloc, attributes)?;
-                self.line(
-                    indent,
-                    &["GROUP ", attributes.as_str(), " AS ", name.as_str()],
-                )
-            }
-            Postfix::Ungroup(name) => self.line(indent, &["UNGROUP ", name.as_str()]),
-            Postfix::Wrap(_, attributes, name) => {
-                let attributes = listed_attributes(alloc, attributes)?;
-                self.line(
-                    indent,
-                    &["WRAP ", attributes.as_str(), " AS ", name.as_str()],
-                )
-            }
-            Postfix::Unwrap(name) => self.line(indent, &["UNWRAP ", name.as_str()]),
-        }
-    }
-
-    /// The line of an operator of one operand.
-    fn monadic(&mut self, indent: usize, op: &Monadic) -> Result<(), AllocError> {
-        match op {
-            Monadic::Prefix(op) => self.line(indent, &[prefix_word(*op)]),
-            Monadic::Extract(attribute) => self.line(indent, &["FROM ", attribute.as_str()]),
-            Monadic::Postfix(op) => self.postfix(indent, op),
-            Monadic::Component(rest) => self.line(indent, &["COMPONENT ", rest.as_str()]),
-            Monadic::Measure(op) => self.line(indent, &[op.keyword().word()]),
-        }
-    }
-
-    /// The line of what makes a value of parts.
-    fn selector(&mut self, indent: usize, selector: &Selector) -> Result<(), AllocError> {
-        match selector {
-            Selector::User(name) => self.line(indent, &[name.as_str()]),
-            Selector::Relation => self.line(indent, &["RELATION"]),
-            Selector::HeadedRelation(_) => self.line(indent, &["RELATION OF HEADING"]),
-            Selector::Tuple(names) => {
-                self.line(
-                    indent,
-                    &[listed_names(self.alloc, "TUPLE ", names)?.as_str()],
-                )
-            }
-        }
-    }
-}
-
-/// What a restriction is called, by why it stands there.
-fn restriction_word(origin: Origin) -> &'static str {
-    match origin {
-        Origin::Written => "RESTRICTION",
-        Origin::Pushed => "RESTRICTION BY PUSH",
-    }
-}
-
-/// What an operator before its operand is called.
-fn prefix_word(op: Prefix) -> &'static str {
-    match op {
-        Prefix::Not => "NOT",
-        Prefix::Negate => "NEGATION",
-        Prefix::TransitiveClosure => "TCLOSE",
-        Prefix::TupleFrom => "TUPLE FROM",
+        self.values(indent, values)
     }
 }
 

@@ -22,7 +22,6 @@ use crate::rewriting::brief::is_brief;
 use crate::rewriting::numbers::has_numbers;
 use std::alloc::{AllocError, Global};
 use td_check::cannot_fail::cannot_fail;
-use td_check::expression::check_expr;
 use td_check::names::names_in;
 use td_check::scope::Scope;
 use td_tree::expression::Expr;
@@ -73,10 +72,9 @@ fn has_type_of<C: Known>(
     let Some(ty) = heading.get(name) else {
         return Ok(false);
     };
-    match check_expr(&planner.scope, value) {
-        Ok(other) => Ok(other == *ty),
-        Err(Fault::Refused(_)) => Ok(false),
-        Err(Fault::Memory) => Err(AllocError),
+    match planner.type_of(value)? {
+        Some(other) => Ok(other == *ty),
+        None => Ok(false),
     }
 }
 

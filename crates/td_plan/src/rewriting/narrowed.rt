@@ -40,14 +40,8 @@ fn bare_name(expr: &Expr) -> Option<&Name>
     }
 }
 
-/// Whether a key of the base relvar of the name has attributes.
-fn has_key_attributes<C: Known>(planner: &Planner<'_, C>, name: &Name) -> bool {
-    let keys = planner.catalog.keys_of(name);
-    keys.is_some_and(|keys| keys.iter().any(|key| !key.is_empty()))
-}
-
-/// The name in an expression that is the name of a base relvar with a key of attributes, which no
-/// attribute hides and in whose place no other relation stands.
+/// The name in an expression that is the name of a base relvar, which no attribute hides and in
+/// whose place no other relation stands.
 pub(crate) fn base_named<'e, C: Known>(planner: &Planner<'_, C>, expr: &'e Expr) -> Option<&'e Name>
     ensures means { IfSome result (λ n. MeansName n.now (tree_view expr.now)) }
     ensures base { IfSome result (λ n. IsBase planner.now.scope n.now) }
@@ -58,7 +52,7 @@ pub(crate) fn base_named<'e, C: Known>(planner: &Planner<'_, C>, expr: &'e Expr)
         return None;
     }
     match planner.scope.relvar(name) {
-        Some((Kind::Base, _)) if has_key_attributes(planner, name) => Some(name),
+        Some((Kind::Base, _)) => Some(name),
         _ => None,
     }
 }

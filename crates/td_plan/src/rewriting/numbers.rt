@@ -1,12 +1,11 @@
-//! Whether the numbers in an expression are in INTEGER's range, as they are in what is read.
+//! Whether the numbers in an expression are in INTEGER's range, as they are in what is read. One that
+//! asks for an aggregate may fail whatever they are, and is not looked into.
 ghost use Rattle.std.specs.Prelude.{IsTrue};
 ghost use Rattle.td_eval.specs.TreeNumbers.{HasNumbers, HaveNumbers, IsInRangeLiteral};
-ghost use Rattle.td_eval.specs.TreeNumbers.{ItemsHaveNumbers, PartsHaveNumbers};
-ghost use Rattle.td_tree.specs.code.TreeViews.{literal_view, named_view, summaries_view, tree_view};
-ghost use Rattle.td_tree.specs.code.TreeViews.{trees_view, with_summary};
-ghost use Rattle.td_tree.specs.Trees.{Summaries};
+ghost use Rattle.td_eval.specs.TreeNumbers.{PartsHaveNumbers};
+ghost use Rattle.td_tree.specs.code.TreeViews.{literal_view, named_view, tree_view, trees_view};
 
-use td_tree::expression::{Expr, Literal, MAX_MAGNITUDE, NamedExpr, Summary};
+use td_tree::expression::{Expr, Literal, MAX_MAGNITUDE, NamedExpr};
 
 /// Whether a literal's number is in range.
 fn is_in_range(literal: &Literal) -> bool
@@ -25,7 +24,7 @@ fn is_in_range(literal: &Literal) -> bool
     }
 }
 
-/// Whether the numbers in an expression are in INTEGER's range.
+/// Whether an expression asks for no aggregate, and the numbers in it are in INTEGER's range.
 #[cycle(numbers)]
 pub(crate) fn has_numbers(expr: &Expr) -> bool
     ensures { IsTrue result → HasNumbers (tree_view expr.now) }
@@ -41,8 +40,8 @@ pub(crate) fn has_numbers(expr: &Expr) -> bool
         | Expr::Measure(_, operand) => has_numbers(operand),
         Expr::Restriction(first, second)
         | Expr::Binary(first, _, second)
-        | Expr::Compare(first, _, second)
-        | Expr::Aggregate(_, first, second) => has_numbers(first) && has_numbers(second),
+        | Expr::Compare(first, _, second) => has_numbers(first) && has_numbers(second),
+        Expr::Aggregate(..) => false,
         Expr::Select(_, arguments) => have_numbers(arguments),
         Expr::Relation(elements) => have_numbers(elements),
         Expr::HeadedRelation(_, elements) => have_numbers(elements),
@@ -51,9 +50,9 @@ pub(crate) fn has_numbers(expr: &Expr) -> bool
             has_numbers(operand) && parts_have_numbers(parts)
         }
         Expr::SummarizePer(operand, per, items) => {
-            has_numbers(operand) && has_numbers(per) && items_have_numbers(items)
+            has_numbers(operand) && has_numbers(per) && items.is_empty()
         }
-        Expr::SummarizeBy(operand, _, items) => has_numbers(operand) && items_have_numbers(items),
+        Expr::SummarizeBy(operand, _, items) => has_numbers(operand) && items.is_empty(),
         Expr::If(condition, consequent, alternative) => {
             has_numbers(condition) && has_numbers(consequent) && has_numbers(alternative)
         }
@@ -61,7 +60,7 @@ pub(crate) fn has_numbers(expr: &Expr) -> bool
     }
 }
 
-/// Whether those in each of the expressions are.
+/// Whether that holds of each of the expressions.
 #[cycle(numbers)]
 fn have_numbers(exprs: &[Expr]) -> bool
     ensures { IsTrue result → HaveNumbers (trees_view exprs.now) }
@@ -74,38 +73,13 @@ fn have_numbers(exprs: &[Expr]) -> bool
     true
 }
 
-/// Whether those in each of the parts are.
+/// Whether it holds of each of the parts.
 #[cycle(numbers)]
 fn parts_have_numbers(parts: &[NamedExpr]) -> bool
     ensures { IsTrue result → PartsHaveNumbers (named_view parts.now) }
 {
     for part in parts {
         if !has_numbers(&part.value) {
-            return false;
-        }
-    }
-    true
-}
-
-/// Whether those in an item of SUMMARIZE are.
-#[cycle(numbers)]
-fn item_has_numbers(item: &Summary) -> bool
-    ensures { IsTrue result → (rest : Summaries) → ItemsHaveNumbers rest
-        → ItemsHaveNumbers (with_summary item.now rest) }
-{
-    match item {
-        Summary::Count(_) => true,
-        Summary::Of(_, value, _) => has_numbers(value),
-    }
-}
-
-/// Whether those in each of the items are.
-#[cycle(numbers)]
-fn items_have_numbers(items: &[Summary]) -> bool
-    ensures { IsTrue result → ItemsHaveNumbers (summaries_view items.now) }
-{
-    for item in items {
-        if !item_has_numbers(item) {
             return false;
         }
     }

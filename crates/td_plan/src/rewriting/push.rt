@@ -127,20 +127,12 @@ fn restricted_first<C: Known>(
     }
 }
 
-/// Whether the heading has an attribute of the name and the other has none.
-fn is_missing(heading: &Heading, other: &Heading, name: &Name) -> bool
-    ensures { result
-        ≡ (has_attribute name.now heading.now && not (has_attribute name.now other.now)) }
-{
-    heading.get(name).is_some() && other.get(name).is_none()
-}
-
-/// Whether that is so of one of the names.
+/// Whether the heading has an attribute of one of the names that the other has not.
 fn one_is_missing(heading: &Heading, other: &Heading, names: &[Name]) -> bool
     ensures { result ≡ list_any
         (λ n. has_attribute n heading.now && not (has_attribute n other.now)) names.now }
 {
-    names.iter().any(|name| is_missing(heading, other, name))
+    names.iter().any(|name| heading.get(name).is_some() && other.get(name).is_none())
 }
 
 /// Whether each of the heading's attributes that are named in an expression is one of the other's.

@@ -1,12 +1,15 @@
-use Rattle.std.proofs.Common.{◌≡◌, ◌⊎◌, inl, inr, ◌∙◌, ap, subst, sym, true≢false}
+use Rattle.std.proofs.Common.{◌≡◌, ◌⊎◌, inl, inr, ◌∙◌, List, [], ◌∷◌, ap, length, subst, sym, true, true≢false}
 use Rattle.std.specs.Global.{Box, Vec}
-use Rattle.td_eval.specs.TreeNumbers.{HasNumbers, PartsHaveNumbers}
+use Rattle.std.proofs.lemmas.Bool.{eqb-true}
+use Rattle.std.specs.Prelude.{◌==◌}
+use Rattle.td_eval.specs.TreeNumbers.{HasNumbers, ItemsHaveNumbers, PartsHaveNumbers}
 use Rattle.td_plan.proofs.rewriting.numbers.+numbers.Goals.{has_numbers-else-has_numbers, has_numbers-then-has_numbers}
 use Rattle.td_plan.proofs.rewriting.numbers.+numbers.Goals as goal
 use Rattle.td_tree.proofs.code_lemmas.Rows.{binding_is, extend_is, extend_setting_is, headed_relation_is, relation_is, select_is, summarize_by_is, summarize_per_is, tuple_is}
 use Rattle.td_tree.specs.declared.expression.Expr.{Expr}
 use Rattle.td_tree.specs.declared.expression.Expr.TheVariants as exprs
 use Rattle.td_tree.specs.declared.expression.NamedExpr.{NamedExpr}
+use Rattle.td_tree.specs.declared.expression.Summary.{Summary}
 use Rattle.td_tree.specs.code.TreeViews.{attributes_view, heading_tree_view, named_view, summaries_view, tree_view, trees_view}
 use Rattle.td_tree.specs.Trees as trees
 
@@ -38,9 +41,17 @@ numbers_of_parts a b v is operand parts = elim is [
   | inr x ↦ subst HasNumbers (sym (ap tree_view x ∙ extend_setting_is b v)) (operand, parts)
 ]
 
+-- SUMMARIZE by no items
+none_summed : (v : Vec Summary) → (v.len == 0) ≡ true → ItemsHaveNumbers (summaries_view v.items)
+none_summed v none = of_none v.items (sym v.ok.0 ∙ eqb-true v.len 0 none)
+  where
+    of_none : (xs : List Summary) → length xs ≡ 0 → ItemsHaveNumbers (summaries_view xs)
+    of_none [] e = tt
+    of_none (x ∷ xs) e = absurd (cc)
+
 pub has_numbers-returns-then-has_numbers-2 : goal.has_numbers-returns-then-has_numbers-2
 has_numbers-returns-then-has_numbers-2 t c =
-    let is = ap tree_view c.in-SummarizePer.is ∙ summarize_per_is c.in-SummarizePer.operand c.in-SummarizePer.per c.in-SummarizePer.items ∙ ap (λ xs. trees.summarize_per (tree_view c.in-SummarizePer.operand.value) (tree_view c.in-SummarizePer.per.value) (summaries_view xs)) (sym c.deref-then-has_numbers-2.ensures.value) in
+    let is = ap tree_view c.in-SummarizePer.is ∙ summarize_per_is c.in-SummarizePer.operand c.in-SummarizePer.per c.in-SummarizePer.items in
     let two : HasNumbers (tree_view c.in-SummarizePer.operand.value) × HasNumbers (tree_view c.in-SummarizePer.per.value) =
     elim c.if-has_numbers.branch [
       | has_numbers-then-has_numbers w ↦ (
@@ -49,12 +60,12 @@ has_numbers-returns-then-has_numbers-2 t c =
       )
       | has_numbers-else-has_numbers w ↦ absurd (true≢false (sym c.if-has_numbers-2.true ∙ w.value-is ∙ w.if-has_numbers.false))
     ] in
-    λ e. subst HasNumbers (sym is) (two.0, two.1, c.items_have_numbers.ensures e)
+    λ e. subst HasNumbers (sym is) (two.0, two.1, none_summed c.in-SummarizePer.items (sym c.is_empty.ensures ∙ e))
 
 pub has_numbers-returns-then-has_numbers-3 : goal.has_numbers-returns-then-has_numbers-3
 has_numbers-returns-then-has_numbers-3 t c =
-    let is = ap tree_view c.in-SummarizeBy.is ∙ summarize_by_is c.in-SummarizeBy.operand c.in-SummarizeBy.field-1 c.in-SummarizeBy.items ∙ (λ i. trees.summarize_by (tree_view (sym c.deref-in-SummarizeBy.ensures i)) (attributes_view c.in-SummarizeBy.field-1) (summaries_view (sym c.deref-then-has_numbers-3.ensures.value i))) in
-    λ e. subst HasNumbers (sym is) (c.has_numbers-in-SummarizeBy.ensures c.if-has_numbers-3.true, c.items_have_numbers-then-has_numbers-3.ensures e)
+    let is = ap tree_view c.in-SummarizeBy.is ∙ summarize_by_is c.in-SummarizeBy.operand c.in-SummarizeBy.field-1 c.in-SummarizeBy.items ∙ ap (λ x. trees.summarize_by (tree_view x) (attributes_view c.in-SummarizeBy.field-1) (summaries_view c.in-SummarizeBy.items.items)) (sym c.deref-in-SummarizeBy.ensures) in
+    λ e. subst HasNumbers (sym is) (c.has_numbers-in-SummarizeBy.ensures c.if-has_numbers-3.true, none_summed c.in-SummarizeBy.items (sym c.is_empty-then-has_numbers-3.ensures ∙ e))
 
 pub has_numbers-returns-then-has_numbers-6 : goal.has_numbers-returns-then-has_numbers-6
 has_numbers-returns-then-has_numbers-6 t c =

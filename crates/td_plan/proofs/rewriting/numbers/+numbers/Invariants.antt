@@ -1,7 +1,7 @@
 use Rattle.std.proofs.Common.{drop}
-use Rattle.td_eval.specs.TreeNumbers.{HaveNumbers, ItemsHaveNumbers, PartsHaveNumbers}
+use Rattle.td_eval.specs.TreeNumbers.{HaveNumbers, PartsHaveNumbers}
 use Rattle.td_plan.proofs.rewriting.numbers.+numbers.Given as goal
-use Rattle.td_tree.specs.code.TreeViews.{named_view, summaries_view, trees_view}
+use Rattle.td_tree.specs.code.TreeViews.{named_view, trees_view}
 
 -- where the rest have such numbers, all have
 abbrev pub invariant-have_numbers-loop-expr : goal.invariant-have_numbers-loop-expr
@@ -11,7 +11,3 @@ invariant-have_numbers-loop-expr l =
 abbrev pub invariant-parts_have_numbers-loop-part : goal.invariant-parts_have_numbers-loop-part
 invariant-parts_have_numbers-loop-part l =
     PartsHaveNumbers (named_view (drop l.part-index l.parts)) → PartsHaveNumbers (named_view l.parts)
-
-abbrev pub invariant-items_have_numbers-loop-item : goal.invariant-items_have_numbers-loop-item
-invariant-items_have_numbers-loop-item l =
-    ItemsHaveNumbers (summaries_view (drop l.item-index l.items)) → ItemsHaveNumbers (summaries_view l.items)
