@@ -1,0 +1,38 @@
+// A constraint's plan is kept from one change to the next. It is made anew where another constraint
+// stands in its place, where what it names was defined anew, and after a ROLLBACK.
+VAR R BASE RELATION {K INTEGER, V INTEGER} KEY {K};
+VAR F VIRTUAL (R WHERE V > 10);
+CONSTRAINT LOW IS_EMPTY(F WHERE K > 100);
+CONSTRAINT FEW COUNT(R) < 6;
+INSERT R RELATION {TUPLE {K 1, V 20}};
+INSERT R RELATION {TUPLE {K 101, V 20}};
+INSERT R RELATION {TUPLE {K 101, V 5}};
+// FEW takes the place of LOW.
+DROP CONSTRAINT LOW;
+INSERT R RELATION {TUPLE {K 102, V 20}};
+INSERT R RELATION {TUPLE {K 103, V 20}, TUPLE {K 104, V 20}, TUPLE {K 105, V 20}, TUPLE {K 106, V 20}};
+// F is another relvar, with its attributes in other places.
+DROP VAR F;
+VAR F VIRTUAL ((R WHERE V <= 10) RENAME (V AS A));
+CONSTRAINT LOW IS_EMPTY(F WHERE K > 101);
+INSERT R RELATION {TUPLE {K 103, V 20}};
+DELETE R WHERE K = 103;
+INSERT R RELATION {TUPLE {K 103, V 5}};
+// In a transaction ODD takes LOW's place, and goes with it.
+BEGIN TRANSACTION;
+DROP CONSTRAINT LOW;
+CONSTRAINT ODD IS_EMPTY(F WHERE A = 6);
+INSERT R RELATION {TUPLE {K 103, V 5}};
+UPDATE R WHERE K = 103 (V := 6);
+ROLLBACK;
+INSERT R RELATION {TUPLE {K 103, V 5}};
+INSERT R RELATION {TUPLE {K 100, V 6}};
+// The last is tested where two relvars change at once, too.
+VAR S BASE RELATION {K INTEGER} KEY {K};
+CONSTRAINT KNOWN S {K} <= R {K};
+INSERT S RELATION {TUPLE {K 1}}, INSERT R RELATION {TUPLE {K 2, V 2}};
+INSERT S RELATION {TUPLE {K 2}};
+INSERT S RELATION {TUPLE {K 101}};
+DELETE R WHERE K = 101;
+WRITE R;
+WRITE S;
