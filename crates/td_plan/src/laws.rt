@@ -3,7 +3,7 @@ ghost use Rattle.td_plan.specs.LaterRuns.{PlansServeTheirScope};
 ghost use Rattle.td_plan.specs.TotalConditions.{UnfailingConditionsAreTotal};
 ghost use Rattle.td_plan.specs.VirtualRelvars.{VirtualRelvarsAreTheirExpressions};
 
-/// A plan may be run in another state than the one in which it was made, if the same is known there.
+/// A plan may be run in another state than the one in which it was made, if it knows the same.
 pub fn plans_serve_their_scope()
     ensures { PlansServeTheirScope }
 {}
