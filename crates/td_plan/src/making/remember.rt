@@ -1,6 +1,6 @@
 //! Parts of a step whose answers are kept, found once it is made: those that do not name the
 //! innermost tuple which what they are parts of names.
-ghost use Rattle.std.specs.Prelude.{◌≡◌, ◌∷◌, [], IfOk, IfSome, OnOk, length, ℕ};
+ghost use Rattle.std.specs.Prelude.{◌≡◌, ◌∷◌, [], IfOk, OnOk, length, ℕ};
 ghost use Rattle.td_plan.specs.code.Remembered.{AreBefore, AreEachKept, AreEachRemembered};
 ghost use Rattle.td_plan.specs.code.Remembered.{AreRemembered, AreRememberedBound};
 ghost use Rattle.td_plan.specs.code.Remembered.{AreRememberedInside, IsRemembered, KeepsPart};
@@ -81,19 +81,6 @@ struct NamedStep {
     names: SlotSet,
 }
 
-/// The slots that a step without parts names: nothing where it may have parts.
-fn leaf_names(step: &Step) -> Option<SlotSet>
-    ensures { IfSome result (λ names. (places : ℕ)
-        → IsRemembered places places names step.now step.now) }
-{
-    match step {
-        Step::Constant(_) => Some(0),
-        Step::Relvar(_) => Some(0),
-        Step::Attribute { slot, .. } => Some(one(*slot)),
-        _ => None,
-    }
-}
-
 /// Keeps the answers of the step's parts. It gives the slots that the step names.
 #[cycle(remember)]
 pub(crate) fn remember(
@@ -103,9 +90,6 @@ pub(crate) fn remember(
 ) -> Result<SlotSet, AllocError>
     ensures { IfOk result (λ names. IsRemembered places.old places.new names step.old step.new) }
 {
-    if let Some(names) = leaf_names(step) {
-        return Ok(names);
-    }
     let old = mem::replace(step, Step::Refused(Cause::NameUnknown));
     let named = named_step(alloc, places, old)?;
     *step = named.step;

@@ -389,6 +389,3 @@ named_step-bound-names-requires t c =
     let parts = parts_deep c.in-Bound.items in
     let value = ap step_height c.deref_mut-in-Bound.ensures.value in
     (omega (arith, c.decreases, is, parts, value), tt)
-
-pub remember-returns-in-Some : goal.remember-returns-in-Some
-remember-returns-in-Some t c = c.in-Some.ensures c.args.places.now
