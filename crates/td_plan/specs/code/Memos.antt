@@ -1,6 +1,6 @@
 -- What is kept of the parts of a plan while it is run.
 use Rattle.std.specs.Prelude.{◌≡◌, ◌<◌, ◌≤◌, ◌⊎◌, ℕ, List, [], ◌∷◌, Option, Some, None, ⊤}
-use Rattle.std.specs.List.{slice_get}
+use Rattle.std.specs.List.{Contains, slice_get}
 use Rattle.td_eval.specs.Worlds.{World}
 use Rattle.td_plan.specs.declared.running.memo.Kept.{Kept}
 use Rattle.td_plan.specs.declared.running.memo.Memo.{Memo}
@@ -15,14 +15,14 @@ use Rattle.td_tree.specs.Outcomes.{Answers}
 abbrev pub AgreeBelow : ℕ → Slots → Slots → Type 0
 AgreeBelow k s t = (j : ℕ) → j < k → s j ≡ t j
 
-abbrev pub AgreeOn : (ℕ → Type 0) → Slots → Slots → Type 0
-AgreeOn names s t = (j : ℕ) → names j → s j ≡ t j
+abbrev pub AgreeOn : List ℕ → Slots → Slots → Type 0
+AgreeOn names s t = (j : ℕ) → Contains names j → s j ≡ t j
 
 -- a plan that names no slot but these
-abbrev pub IsOn : (ℕ → Type 0) → PlanTree → Type 0
+abbrev pub IsOn : List ℕ → PlanTree → Type 0
 IsOn names p = (w : World) (s t : Slots) → AgreeOn names s t → plan_value w s p ≡ plan_value w t p
 
-abbrev pub AreOn : (ℕ → Type 0) → PlanTrees → Type 0
+abbrev pub AreOn : List ℕ → PlanTrees → Type 0
 AreOn names ps = (w : World) (s t : Slots) → AgreeOn names s t → plan_values w s ps ≡ plan_values w t ps
 
 -- a plan that names no slot from this one on

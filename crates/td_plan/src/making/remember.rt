@@ -1,22 +1,27 @@
 //! Parts of a step whose answers are kept, found once it is made: those that do not name the
 //! innermost tuple which what they are parts of names.
-ghost use Rattle.std.specs.Prelude.{◌≡◌, ◌∷◌, [], IfOk, OnOk, length, ℕ};
-ghost use Rattle.td_plan.specs.code.Remembered.{AreBefore, AreEachKept, AreEachRemembered};
-ghost use Rattle.td_plan.specs.code.Remembered.{AreRemembered, AreRememberedBound};
-ghost use Rattle.td_plan.specs.code.Remembered.{AreRememberedInside, IsRemembered, KeepsPart};
+ghost use Rattle.std.specs.Prelude.{◌≡◌, ◌<◌, ◌-◌, IfOk, IfSome, List, OnOk, length, map, ℕ};
+ghost use Rattle.td_plan.specs.code.Remembered.{AreAmong, AreAmongBut, AreBefore, AreEachKept};
+ghost use Rattle.td_plan.specs.code.Remembered.{AreEachRemembered, AreRemembered, AreAllRemembered};
+ghost use Rattle.td_plan.specs.code.Remembered.{AreBoundNames, AreRememberedBound};
+ghost use Rattle.td_plan.specs.code.Remembered.{AreRememberedInside, AreRememberedInsideBoth};
+ghost use Rattle.td_plan.specs.code.Remembered.{AreThreeRemembered, IsRemembered, KeepsPart};
 ghost use Rattle.td_plan.specs.declared.plan.step.Step.{Step};
+ghost use Rattle.td_plan.specs.declared.plan.step.Step.TheVariants as variants;
 
 mod names;
 
-use crate::making::remember::names::{SlotSet, before, one, reach_of, union_of, without};
+use crate::making::remember::names::{before, joined, one, reach_of, union_of, without};
 use crate::plan::step::Step;
 use std::alloc::{AllocError, Global};
 use std::mem;
 use td_tree::cause::Cause;
 
+// ---- parts
+
 /// Keeps the answer of a step, which names no slot from the reach on, at the next place.
 fn keep(alloc: Global, places: &mut usize, step: &mut Step, reach: usize) -> Result<(), AllocError>
-    ensures { OnOk result ((names : ℕ) → AreBefore reach names
+    ensures { OnOk result ((names : List ℕ) → AreBefore reach names
         → KeepsPart places.old places.new names step.old step.new) }
 {
     let place = *places;
@@ -43,10 +48,10 @@ fn keep_part(
     alloc: Global,
     places: &mut usize,
     step: &mut Step,
-    names: SlotSet,
+    names: &[usize],
     reach: usize,
 ) -> Result<(), AllocError>
-    ensures { OnOk result (KeepsPart places.old places.new names step.old step.new) }
+    ensures { OnOk result (KeepsPart places.old places.new names.now step.old step.new) }
 {
     let own = reach_of(names);
     if own < reach && has_work(step) {
@@ -61,24 +66,39 @@ fn keep_all(
     alloc: Global,
     places: &mut usize,
     steps: &mut Vec<Step>,
-    sets: &[SlotSet],
-    outer: usize,
+    all: &[Vec<usize>],
+    reach: usize,
 ) -> Result<(), AllocError>
-    requires { length sets.now ≡ length steps.old.items }
-    ensures { OnOk result
-        (AreEachKept places.old places.new sets.now steps.old.items steps.new.items) }
+    requires { length all.now ≡ length steps.old.items }
+    ensures { OnOk result (AreEachKept places.old places.new (map (λ ns. ns.items) all.now)
+        steps.old.items steps.new.items) }
 {
     for (place, step) in steps.iter_mut().enumerate() {
-        keep_part(alloc, places, step, sets[place], outer)?;
+        keep_part(alloc, places, step, &all[place], reach)?;
     }
     Ok(())
 }
+
+// ---- the walk
 
 /// A step whose parts are kept, and the slots that it names.
 #[derive(Drop)]
 struct NamedStep {
     step: Step,
-    names: SlotSet,
+    names: Vec<usize>,
+}
+
+/// The slots that a step without parts names: nothing where it may have parts.
+fn leaf_names(alloc: Global, step: &Step) -> Option<Result<Vec<usize>, AllocError>>
+    ensures { IfSome result (λ found. IfOk found (λ names. (places : ℕ)
+        → IsRemembered places places names.items step.now step.now)) }
+{
+    match step {
+        Step::Constant(_) => Some(Ok(Vec::new(alloc))),
+        Step::Relvar(_) => Some(Ok(Vec::new(alloc))),
+        Step::Attribute { slot, .. } => Some(one(alloc, *slot)),
+        _ => None,
+    }
 }
 
 /// Keeps the answers of the step's parts. It gives the slots that the step names.
@@ -87,19 +107,27 @@ pub(crate) fn remember(
     alloc: Global,
     places: &mut usize,
     step: &mut Step,
-) -> Result<SlotSet, AllocError>
-    ensures { IfOk result (λ names. IsRemembered places.old places.new names step.old step.new) }
+) -> Result<Vec<usize>, AllocError>
+    ensures { IfOk result (λ names.
+        IsRemembered places.old places.new names.items step.old step.new) }
 {
+    if let Some(names) = leaf_names(alloc, step) {
+        return names;
+    }
     let old = mem::replace(step, Step::Refused(Cause::NameUnknown));
     let named = named_step(alloc, places, old)?;
     *step = named.step;
     Ok(named.names)
 }
 
-/// The step, beside the slots that it names where there was memory for its parts.
-fn step_with_names(step: Step, names: Result<SlotSet, AllocError>) -> Result<NamedStep, AllocError>
-    ensures { (a b : ℕ) (old : Step) → IfOk names (λ set. IsRemembered a b set old step)
-        → IfOk result (λ named. IsRemembered a b named.names old named.step) }
+/// The step, beside the slots that it names where there was memory for them.
+fn step_with_names(
+    step: Step,
+    names: Result<Vec<usize>, AllocError>,
+) -> Result<NamedStep, AllocError>
+    ensures { (a b : ℕ) (old : Step)
+        → IfOk names (λ ns. IsRemembered a b ns.items old step)
+        → IfOk result (λ named. IsRemembered a b named.names.items old named.step) }
 {
     let names = names?;
     Ok(NamedStep { step, names })
@@ -109,14 +137,14 @@ fn step_with_names(step: Step, names: Result<SlotSet, AllocError>) -> Result<Nam
 #[cycle(remember)]
 fn named_step(alloc: Global, places: &mut usize, step: Step) -> Result<NamedStep, AllocError>
     ensures { IfOk result (λ named.
-        IsRemembered places.old places.new named.names step named.step) }
+        IsRemembered places.old places.new named.names.items step named.step) }
 {
     match step {
-        Step::Constant(value) => step_with_names(Step::Constant(value), Ok(0)),
-        Step::Refused(cause) => step_with_names(Step::Refused(cause), Ok(0)),
-        Step::Relvar(name) => step_with_names(Step::Relvar(name), Ok(0)),
+        Step::Constant(value) => step_with_names(Step::Constant(value), Ok(Vec::new(alloc))),
+        Step::Refused(cause) => step_with_names(Step::Refused(cause), Ok(Vec::new(alloc))),
+        Step::Relvar(name) => step_with_names(Step::Relvar(name), Ok(Vec::new(alloc))),
         Step::Attribute { slot, place } => {
-            step_with_names(Step::Attribute { slot, place }, Ok(one(slot)))
+            step_with_names(Step::Attribute { slot, place }, one(alloc, slot))
         }
         Step::LookUp(relvar, key, mut operand) => {
             let names = remember(alloc, places, &mut operand);
@@ -162,19 +190,10 @@ fn named_step(alloc: Global, places: &mut usize, step: Step) -> Result<NamedStep
         }
         Step::Bound {
             slot,
-            mut reach,
-            mut items,
-            mut value,
-        } => {
-            let names = bound(alloc, places, slot, &mut reach, &mut items, &mut value);
-            let step = Step::Bound {
-                slot,
-                reach,
-                items,
-                value,
-            };
-            step_with_names(step, names)
-        }
+            items,
+            value,
+            ..
+        } => bound(alloc, places, slot, items, value),
         Step::Once { part, .. } => named_step(alloc, places, Box::into_inner(part)),
     }
 }
@@ -188,15 +207,17 @@ fn both(
     places: &mut usize,
     left: &mut Step,
     right: &mut Step,
-) -> Result<SlotSet, AllocError>
-    ensures { IfOk result (λ names. AreRemembered places.old places.new names
-        (left.old ∷ right.old ∷ []) (left.new ∷ right.new ∷ [])) }
+) -> Result<Vec<usize>, AllocError>
+    ensures { IfOk result (λ names. AreRemembered places.old places.new
+        (λ x y. AreAmong x names.items × AreAmong y names.items)
+        left.old right.old left.new right.new) }
 {
     let first = remember(alloc, places, left)?;
     let second = remember(alloc, places, right)?;
-    keep_part(alloc, places, left, first, reach_of(second))?;
-    keep_part(alloc, places, right, second, reach_of(first))?;
-    Ok(first | second)
+    let reach = reach_of(&first).max(reach_of(&second));
+    keep_part(alloc, places, left, &first, reach)?;
+    keep_part(alloc, places, right, &second, reach)?;
+    joined(first, &second)
 }
 
 /// Keeps the answers of parts of three steps, and of those that do not reach as far.
@@ -207,52 +228,18 @@ fn three(
     first: &mut Step,
     second: &mut Step,
     third: &mut Step,
-) -> Result<SlotSet, AllocError>
-    ensures { IfOk result (λ names. AreRemembered places.old places.new names
-        (first.old ∷ second.old ∷ third.old ∷ []) (first.new ∷ second.new ∷ third.new ∷ [])) }
+) -> Result<Vec<usize>, AllocError>
+    ensures { IfOk result (λ names. AreThreeRemembered places.old places.new names.items
+        first.old second.old third.old first.new second.new third.new) }
 {
-    let one = remember(alloc, places, first)?;
-    let two = remember(alloc, places, second)?;
-    let three = remember(alloc, places, third)?;
-    let names = one | two | three;
-    let reach = reach_of(names);
-    keep_part(alloc, places, first, one, reach)?;
-    keep_part(alloc, places, second, two, reach)?;
-    keep_part(alloc, places, third, three, reach)?;
-    Ok(names)
+    let names = both(alloc, places, second, third)?;
+    let own = remember(alloc, places, first)?;
+    let reach = reach_of(&own);
+    keep_part(alloc, places, first, &own, reach_of(&names))?;
+    keep_part(alloc, places, second, &names, reach)?;
+    keep_part(alloc, places, third, &names, reach)?;
+    joined(own, &names)
 }
-
-/// Keeps the answers of parts of each of the steps. It gives the slots that each names.
-#[cycle(remember)]
-fn remember_all(
-    alloc: Global,
-    places: &mut usize,
-    steps: &mut Vec<Step>,
-) -> Result<Vec<SlotSet>, AllocError>
-    ensures { IfOk result (λ sets. AreEachRemembered places.old places.new sets.items
-        steps.old.items steps.new.items) }
-{
-    let mut sets = Vec::with_capacity(alloc, steps.len())?;
-    for step in steps.iter_mut() {
-        sets.push(remember(alloc, places, step)?)?;
-    }
-    Ok(sets)
-}
-
-/// Keeps the answers of parts of steps that stand side by side, and of those that do not reach as
-/// far as others.
-#[cycle(remember)]
-fn all(alloc: Global, places: &mut usize, steps: &mut Vec<Step>) -> Result<SlotSet, AllocError>
-    ensures { IfOk result (λ names. AreRemembered places.old places.new names
-        steps.old.items steps.new.items) }
-{
-    let sets = remember_all(alloc, places, steps)?;
-    let names = union_of(&sets);
-    keep_all(alloc, places, steps, &sets, reach_of(names))?;
-    Ok(names)
-}
-
-// ---- what is applied to tuples
 
 /// Keeps the answers of parts of an operand, and of what is applied to the tuple in the slot.
 #[cycle(remember)]
@@ -262,16 +249,47 @@ fn inside(
     operand: &mut Step,
     slot: usize,
     body: &mut Step,
-) -> Result<SlotSet, AllocError>
-    ensures { IfOk result (λ names. AreRememberedInside places.old places.new slot names
-        (operand.old ∷ []) (body.old ∷ []) (operand.new ∷ body.new ∷ [])) }
+) -> Result<Vec<usize>, AllocError>
+    ensures { IfOk result (λ names. AreRemembered places.old places.new
+        (λ x y. AreAmong x names.items × AreAmongBut slot y names.items)
+        operand.old body.old operand.new body.new) }
 {
-    let own = remember(alloc, places, operand)?;
-    let inner = remember(alloc, places, body)?;
-    let outer = without(slot, inner);
-    keep_part(alloc, places, operand, own, reach_of(outer))?;
-    keep_part(alloc, places, body, inner, slot.saturating_add(1))?;
-    Ok(own | outer)
+    let first = remember(alloc, places, operand)?;
+    let second = remember(alloc, places, body)?;
+    let outer = without(alloc, slot, &second)?;
+    keep_part(alloc, places, operand, &first, reach_of(&outer))?;
+    keep_part(alloc, places, body, &second, slot.saturating_add(1))?;
+    joined(first, &outer)
+}
+
+/// Keeps the answers of parts of each of the steps. It gives the slots that each names.
+#[cycle(remember)]
+fn remember_all(
+    alloc: Global,
+    places: &mut usize,
+    steps: &mut Vec<Step>,
+) -> Result<Vec<Vec<usize>>, AllocError>
+    ensures { IfOk result (λ all. AreEachRemembered places.old places.new
+        (map (λ ns. ns.items) all.items) steps.old.items steps.new.items) }
+{
+    let mut all = Vec::with_capacity(alloc, steps.len())?;
+    for step in steps.iter_mut() {
+        all.push(remember(alloc, places, step)?)?;
+    }
+    Ok(all)
+}
+
+/// Keeps the answers of parts of steps that stand side by side, and of those that do not reach as
+/// far as others.
+#[cycle(remember)]
+fn all(alloc: Global, places: &mut usize, steps: &mut Vec<Step>) -> Result<Vec<usize>, AllocError>
+    ensures { IfOk result (λ names. AreAllRemembered places.old places.new names.items
+        steps.old.items steps.new.items) }
+{
+    let each = remember_all(alloc, places, steps)?;
+    let names = union_of(alloc, &each)?;
+    keep_all(alloc, places, steps, &each, reach_of(&names))?;
+    Ok(names)
 }
 
 /// Keeps the answers of parts of an operand, and of all that is applied to the tuple in the slot.
@@ -282,16 +300,17 @@ fn all_inside(
     operand: &mut Step,
     slot: usize,
     steps: &mut Vec<Step>,
-) -> Result<SlotSet, AllocError>
-    ensures { IfOk result (λ names. AreRememberedInside places.old places.new slot names
-        (operand.old ∷ []) steps.old.items (operand.new ∷ steps.new.items)) }
+) -> Result<Vec<usize>, AllocError>
+    ensures { IfOk result (λ names. AreRememberedInside places.old places.new slot names.items
+        operand.old steps.old.items operand.new steps.new.items) }
 {
-    let own = remember(alloc, places, operand)?;
-    let sets = remember_all(alloc, places, steps)?;
-    let outer = without(slot, union_of(&sets));
-    keep_part(alloc, places, operand, own, reach_of(outer))?;
-    keep_all(alloc, places, steps, &sets, slot.saturating_add(1))?;
-    Ok(own | outer)
+    let first = remember(alloc, places, operand)?;
+    let each = remember_all(alloc, places, steps)?;
+    let inner = union_of(alloc, &each)?;
+    let outer = without(alloc, slot, &inner)?;
+    keep_part(alloc, places, operand, &first, reach_of(&outer))?;
+    keep_all(alloc, places, steps, &each, slot.saturating_add(1))?;
+    joined(first, &outer)
 }
 
 /// Keeps the answers of parts of two operands, and of all that is applied to the tuple in the slot.
@@ -303,45 +322,88 @@ fn all_inside_both(
     per: &mut Step,
     slot: usize,
     steps: &mut Vec<Step>,
-) -> Result<SlotSet, AllocError>
-    ensures { IfOk result (λ names. AreRememberedInside places.old places.new slot names
-        (operand.old ∷ per.old ∷ []) steps.old.items
-        (operand.new ∷ per.new ∷ steps.new.items)) }
+) -> Result<Vec<usize>, AllocError>
+    ensures { IfOk result (λ names. AreRememberedInsideBoth places.old places.new slot names.items
+        operand.old per.old steps.old.items operand.new per.new steps.new.items) }
 {
-    let first = remember(alloc, places, operand)?;
+    let first = all_inside(alloc, places, operand, slot, steps)?;
     let second = remember(alloc, places, per)?;
-    let sets = remember_all(alloc, places, steps)?;
-    let names = first | second | without(slot, union_of(&sets));
-    let reach = reach_of(names);
-    keep_part(alloc, places, operand, first, reach)?;
-    keep_part(alloc, places, per, second, reach)?;
-    keep_all(alloc, places, steps, &sets, slot.saturating_add(1))?;
-    Ok(names)
+    let reach = reach_of(&second);
+    keep_part(alloc, places, per, &second, reach_of(&first))?;
+    keep_part(alloc, places, operand, &first, reach)?;
+    joined(first, &second)
+}
+
+/// The slots that tuples in slots of their own and what stands behind them name together, and the
+/// first one from which on the tuples name none but their own.
+#[derive(Drop)]
+struct BoundNames {
+    names: Vec<usize>,
+    reach: usize,
+}
+
+/// The slots that tuples in slots from this one on name beside their own, those that what stands
+/// behind them names too, and how far the tuples reach.
+fn bound_names(
+    alloc: Global,
+    slot: usize,
+    each: &[Vec<usize>],
+    own: &[usize],
+) -> Result<BoundNames, AllocError>
+    ensures { IfOk result (λ bound. AreBoundNames slot (map (λ ns. ns.items) each.now) own.now
+        bound.names.items bound.reach) }
+{
+    let all = union_of(alloc, each)?;
+    let outer = before(alloc, slot, &all)?;
+    let reach = reach_of(&outer);
+    let inner = joined(all, own)?;
+    let names = before(alloc, slot, &inner)?;
+    Ok(BoundNames { names, reach })
 }
 
 /// Keeps the answers of parts of tuples that come into slots from this one on, and of what stands
-/// where they are in scope. It finds how far the tuples reach.
+/// where they are in scope.
+#[cycle(remember)]
+fn all_bound(
+    alloc: Global,
+    places: &mut usize,
+    slot: usize,
+    items: &mut Vec<Step>,
+    value: &mut Step,
+) -> Result<BoundNames, AllocError>
+    ensures { IfOk result (λ bound. AreRememberedBound places.old places.new slot bound.reach
+        bound.names.items value.old items.old.items value.new items.new.items) }
+{
+    let own = remember(alloc, places, value)?;
+    let each = remember_all(alloc, places, items)?;
+    let bound = bound_names(alloc, slot, &each, &own)?;
+    let reach = reach_of(&bound.names);
+    keep_part(alloc, places, value, &own, reach)?;
+    keep_all(alloc, places, items, &each, reach)?;
+    Ok(bound)
+}
+
+/// What stands where the values of items are in scope.
 #[cycle(remember)]
 fn bound(
     alloc: Global,
     places: &mut usize,
     slot: usize,
-    reach: &mut usize,
-    items: &mut Vec<Step>,
-    value: &mut Step,
-) -> Result<SlotSet, AllocError>
-    ensures { IfOk result (λ names. AreRememberedBound places.old places.new slot reach.new names
-        value.old items.old.items (value.new ∷ items.new.items)) }
+    mut items: Vec<Step>,
+    mut value: Box<Step>,
+) -> Result<NamedStep, AllocError>
+    ensures { IfOk result (λ named. (reach : ℕ) → IsRemembered places.old places.new
+        named.names.items (variants.Bound slot reach items value) named.step) }
 {
-    let own = remember(alloc, places, value)?;
-    let sets = remember_all(alloc, places, items)?;
-    let all = union_of(&sets);
-    let outside = before(slot, all);
-    let far = reach_of(outside);
-    *reach = far;
-    let names = before(slot, all | own);
-    let outer = reach_of(names);
-    keep_part(alloc, places, value, own, outer)?;
-    keep_all(alloc, places, items, &sets, outer)?;
-    Ok(names)
+    let bound = all_bound(alloc, places, slot, &mut items, &mut value)?;
+    let step = Step::Bound {
+        slot,
+        reach: bound.reach,
+        items,
+        value,
+    };
+    Ok(NamedStep {
+        step,
+        names: bound.names,
+    })
 }

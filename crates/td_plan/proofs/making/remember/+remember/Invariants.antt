@@ -1,4 +1,4 @@
-use Rattle.std.proofs.Common.{◌≡◌, ◌+◌, ◌*◌, drop, max, take}
+use Rattle.std.proofs.Common.{◌≡◌, ◌+◌, ◌*◌, drop, map, max, take}
 use Rattle.td_plan.specs.code.Remembered.{AreEachRemembered}
 use Rattle.td_plan.specs.code.StepHeights.{step_height, steps_height}
 use Rattle.td_plan.proofs.making.remember.+remember.Given as goal
@@ -30,10 +30,13 @@ decreases-all_inside l = 8 * max (step_height l.operand.now) (steps_height l.ste
 abbrev pub decreases-all_inside_both : goal.decreases-all_inside_both
 decreases-all_inside_both l = 8 * max (max (step_height l.operand.now) (step_height l.per.now)) (steps_height l.steps.now.items) + 4
 
+abbrev pub decreases-all_bound : goal.decreases-all_bound
+decreases-all_bound l = 8 * max (steps_height l.items.now.items) (step_height l.value.now) + 3
+
 abbrev pub decreases-bound : goal.decreases-bound
-decreases-bound l = 8 * max (steps_height l.items.now.items) (step_height l.value.now) + 4
+decreases-bound l = 8 * max (steps_height l.items.items) (step_height l.value.value) + 4
 
 abbrev pub invariant-remember_all-loop-step : goal.invariant-remember_all-loop-step
 invariant-remember_all-loop-step l =
-    AreEachRemembered l.fn.places l.places l.sets.items (take l.step-index l.fn.steps.items) (take l.step-index l.step-items)
+    AreEachRemembered l.fn.places l.places (map (λ ns. ns.items) l.all.items) (take l.step-index l.fn.steps.items) (take l.step-index l.step-items)
     × (drop l.step-index l.step-items ≡ drop l.step-index l.fn.steps.items)

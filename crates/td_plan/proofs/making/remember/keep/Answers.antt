@@ -1,7 +1,6 @@
 use Rattle.std.proofs.Common.{◌≡◌, ◌∙◌, ap, arith, inr, subst, suc, sym}
 use Rattle.td_plan.proofs.Withins.{on_within}
 use Rattle.td_plan.specs.code.Memos.{IsOn, IsSound}
-use Rattle.td_plan.specs.code.Remembered.{Names}
 use Rattle.td_plan.specs.code.StepViews.{step_view}
 use Rattle.td_plan.proofs.making.remember.keep.Goals as goal
 
@@ -14,7 +13,7 @@ returns c = λ names before.
       next,
       ap step_view same,
       λ ps on at sound. (
-        record { at = at ∙ ap step_view (sym same); within = on_within c.args.reach (Names names) (step_view c.in_ok-part.part.value) before (subst (λ s. IsOn (Names names) (step_view s)) (sym same) on) },
+        record { at = at ∙ ap step_view (sym same); within = on_within c.args.reach names (step_view c.in_ok-part.part.value) before (subst (λ s. IsOn names (step_view s)) (sym same) on) },
         subst (IsSound ps) (sym same) sound,
       ),
     )

@@ -6,4 +6,4 @@ pub returns-then-has_work : goal.returns-then-has_work
 returns-then-has_work c =
     let below = c.if-own-reach.true in
     let fits = c.ranges.reach.fits in
-    on_ok_weaker c.keep.result (λ kept. kept c.args.names (c.reach_of-own.ensures (omega (arith, below, fits)))) c.keep.ensures
+    on_ok_weaker c.keep.result (λ kept. kept c.args.names.now (c.reach_of-own.ensures (omega (arith, below, fits)))) c.keep.ensures

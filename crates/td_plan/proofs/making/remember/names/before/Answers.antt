@@ -1,5 +1,26 @@
-use Rattle.td_plan.proofs.NamedSlots.{named_below}
+use Rattle.std.proofs.Common.{◌++◌, ◌+◌, ◌∷◌, [], arith, get_or, subst, sym, take}
+use Rattle.std.proofs.lemmas.List.{take_all}
+use Rattle.std.proofs.lemmas.List.Elements.{Contains-push}
+use Rattle.td_plan.proofs.NamedSlots.{before_more, before_then}
+use Rattle.td_plan.specs.code.Remembered.{AreAmongBefore}
 use Rattle.td_plan.proofs.making.remember.names.before.Goals as goal
+use Rattle.td_plan.proofs.making.remember.names.before.Goals.{then-name-slot+in_ok-push, else-name-slot}
 
-pub returns-then-slot-lt63 : goal.returns-then-slot-lt63
-returns-then-slot-lt63 c = named_below c.args.set c.args.slot c.if-slot-lt63.true
+pub loop-name-preserved : goal.loop-name-preserved
+loop-name-preserved c =
+    let k = c.args.slot in
+    let i = c.loop-name.name-index in
+    let n = get_or c.args.names.now i 0 in
+    let so_far = c.loop-name.others.items in
+    elim c.if-name-slot.branch [
+      | then-name-slot+in_ok-push w ↦
+          subst (λ ns. AreAmongBefore k (take (i + 1) c.args.names.now) ns.items) (sym w.others-is)
+          (subst (AreAmongBefore k (take (i + 1) c.args.names.now)) (sym w.in_ok-push.ensures.items)
+          (before_then k c.args.names.now (so_far ++ (n ∷ [])) i c.loop-name-test.true (before_more k (take i c.args.names.now) so_far n c.loop-name.invariant) (λ l. Contains-push so_far n)))
+      | else-name-slot w ↦
+          subst (λ ns. AreAmongBefore k (take (i + 1) c.args.names.now) ns.items) (sym w.others-is)
+          (before_then k c.args.names.now so_far i c.loop-name-test.true c.loop-name.invariant (λ l. let past = w.if-name-slot.false in absurd (omega (arith, past, l))))
+    ]
+
+pub returns : goal.returns
+returns c = subst (λ ns. AreAmongBefore c.args.slot ns c.loop-name.others.items) (take_all c.loop-name.name-index c.args.names.now c.loop-name-test.false) c.loop-name.invariant

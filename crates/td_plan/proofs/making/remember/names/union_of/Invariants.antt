@@ -1,6 +1,6 @@
-use Rattle.std.proofs.Common.{take}
-use Rattle.td_plan.specs.code.Remembered.{AreAllAmong, Names}
+use Rattle.std.proofs.Common.{map, take}
+use Rattle.td_plan.specs.code.Remembered.{AreAllAmong}
 use Rattle.td_plan.proofs.making.remember.names.union_of.Given as goal
 
-abbrev pub invariant-loop-set : goal.invariant-loop-set
-invariant-loop-set l = AreAllAmong (take l.set-index l.sets) (Names l.all)
+abbrev pub invariant-loop-some : goal.invariant-loop-some
+invariant-loop-some l = AreAllAmong (map (λ ns. ns.items) (take l.some-index l.all)) l.names.items

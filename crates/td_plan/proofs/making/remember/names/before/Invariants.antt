@@ -1,0 +1,6 @@
+use Rattle.std.proofs.Common.{take}
+use Rattle.td_plan.specs.code.Remembered.{AreAmongBefore}
+use Rattle.td_plan.proofs.making.remember.names.before.Given as goal
+
+abbrev pub invariant-loop-name : goal.invariant-loop-name
+invariant-loop-name l = AreAmongBefore l.slot (take l.name-index l.names) l.others.items
