@@ -1,6 +1,6 @@
 //! What is known where an expression stands.
 ghost use Rattle.std.specs.Prelude.{◌≡◌, ◌↔◌, [], IfOk, IsTrue, OnErr, OnOk, is_some, not};
-ghost use Rattle.std.specs.Prelude.{option_map};
+ghost use Rattle.std.specs.Prelude.{option_map, reverse};
 ghost use Rattle.td_check.specs.code.LentScopes.{lent_scope};
 ghost use Rattle.td_check.specs.code.ScopeCode.{lent_constraints, lent_relvars, seen_view};
 ghost use Rattle.td_check.specs.Scopes.{entered_with, innermost, kind_and_heading, known_relvar};
@@ -171,6 +171,13 @@ impl<'a> Scope<'a> {
         ensures { self.new ≡ without_innermost self.old }
     {
         self.entered.pop();
+    }
+
+    /// The headings of the tuples in scope, the innermost last.
+    pub fn headings(&self) -> &[Heading]
+        ensures { reverse result.now ≡ self.now.entered }
+    {
+        &self.entered
     }
 
     /// Where the scope's memory is from.

@@ -1,15 +1,12 @@
 -- An equality that is TRUE fixes the attribute that one of its operands names to the other one's value.
-use Rattle.std.proofs.Common.{◌≡◌, ◌∙◌, ◌||◌, ℕ, Bool, true, false, List, [], ◌∷◌, ◌++◌, Option, Some, None, ap, not, refl, subst, sym, true≢false}
+use Rattle.std.proofs.Common.{◌≡◌, ◌∙◌, ◌||◌, ℕ, Bool, true, false, List, [], ◌∷◌, ◌++◌, Option, Some, None, ap, refl, subst, sym, true≢false}
 use Rattle.std.specs.Cmp.Lexicographic.{same_text}
 use Rattle.std.specs.List.{list_any}
 use Rattle.std.specs.Prelude.{is_some, option_map}
 use Rattle.td_algebra.proofs.Entries.{type_at-heading_of}
-use Rattle.td_check.proofs.NameSets.{names_are_a_set}
 use Rattle.td_check.specs.CannotFail.{cannot_fail}
-use Rattle.td_check.specs.Mentions.{name_set}
 use Rattle.td_check.specs.Scopes.{Scope}
 use Rattle.td_check.specs.StaticTypes.{type_of}
-use Rattle.td_check.specs.WrittenNames.{names_in}
 use Rattle.td_eval.proofs.law_lemmas.UnfailingTrees.{unfailing_expressions_have_values}
 use Rattle.td_eval.specs.OperatorValues.{comparison_value, of_truth}
 use Rattle.td_eval.specs.TreeValues.{value_of}
@@ -17,7 +14,8 @@ use Rattle.td_eval.specs.Worlds.{World, innermost_value, known_outcome, with_tup
 use Rattle.td_plan.proofs.EqualNames.{values_depend_on_names}
 use Rattle.td_plan.proofs.EqualValues.{and_of_both, equality_of_one}
 use Rattle.td_plan.specs.declared.rewriting.fixed.FixedValue.{FixedValue}
-use Rattle.td_plan.specs.Fixing.{AreOneWhere, IsNamedApart, MayFix}
+use Rattle.td_plan.specs.EqualitiesOfNames.{NamesOnly}
+use Rattle.td_plan.specs.Fixing.{AreOneWhere, MayFix}
 use Rattle.td_plan.specs.Narrowing.{AreFixed, Implies, IsFixedTo}
 use Rattle.td_plan.specs.Plans.{PlanTree}
 use Rattle.td_plan.specs.PlansOf.{IsPlanOfTyped, outermost}
@@ -28,7 +26,6 @@ use Rattle.td_tree.specs.Outcomes.{Outcome, Valued, Refused, with_both}
 use Rattle.td_tree.specs.Trees as trees
 use Rattle.td_tree.specs.Trees.{Tree}
 use Rattle.td_tree.specs.WrittenTrees.{IsWritten}
-use Rattle.td_types.proofs.NameTests.{name_tests_tell}
 use Rattle.td_types.proofs.OutcomeLaws.{valued_is}
 use Rattle.td_types.specs.Headings.{has_attribute, has_name}
 use Rattle.td_types.specs.Types.{Heading, Type', same_name, type_at}
@@ -47,16 +44,6 @@ none_passes test (m ∷ ns) none n there = by_test (none_passes test ns) (test m
     by_test rest true is e c same d = absurd (true≢false e)
     by_test rest false is e true same d = ap test (sym (same_text m n (sym same))) ∙ is
     by_test rest false is e false same d = rest e n d
-
--- of a set of the names of an expression
-pub named_apart : (h : Heading) (x : Tree) (ns : List (List ℕ)) → ns ≡ name_set (names_in x) → not (list_any (λ n. has_attribute n h) ns) ≡ true → IsNamedApart h x
-named_apart h x ns set none n c =
-    none_passes (λ n. has_attribute n h) (name_set (names_in x)) (subst (λ ms. list_any (λ n. has_attribute n h) ms ≡ false) set (fails (list_any (λ n. has_attribute n h) ns) none)) n
-    (names_are_a_set (names_in x) n ∙ (name_tests_tell.0 n (names_in x)).1 c)
-  where
-    fails : (b : Bool) → not b ≡ true → b ≡ false
-    fails false e = refl
-    fails true e = absurd (true≢false (sym e))
 
 -- ---- conditions that are TRUE
 
@@ -88,6 +75,11 @@ one_more_fixed scope h e (y ∷ xs) x all one = (all.0, one_more_fixed scope h e
 
 -- ---- one attribute
 
+-- what leads to what is not so is not so
+never : (b : Bool) → (b ≡ true → false ≡ true) → b ≡ false
+never false h = refl
+never true h = absurd (true≢false (sym (h refl)))
+
 abbrev first_or : List ℕ → List Tuple → Option Val → Option Val
 first_or n s o = elim o as (λ _. Option Val) [ Some v ↦ Some v | None ↦ innermost_value n s ]
 
@@ -115,9 +107,9 @@ module _ (h : Heading) (u : Tuple) (headed : heading_of u ≡ h) where
       by_value (Some v) e = absurd (true≢false (ap (λ o. is_some (option_map values.type_of o)) (sym e) ∙ ap is_some (type_there n) ∙ is))
 
   -- an expression that names no attribute of the heading has the same value beside the tuple
-  value_apart : (w : World) (s : List Tuple) (x : Tree) → IsNamedApart h x → value_of w (u ∷ s) x ≡ value_of w s x
+  value_apart : (w : World) (s : List Tuple) (x : Tree) → NamesOnly [] h x → value_of w (u ∷ s) x ≡ value_of w s x
   value_apart w s x apart =
-      values_depend_on_names w (u ∷ s) s x (λ n c. ap (first_or n s) (no_value_there n (apart n c)))
+      values_depend_on_names w (u ∷ s) s x (λ n c. ap (first_or n s) (no_value_there n (never (has_attribute n h) (apart n c))))
 
   -- the attribute has the value that its name has
   name_there : (w : World) (s : List Tuple) (n : List ℕ) (t : Type') (v : Val) → type_at n h ≡ Some t
@@ -133,8 +125,8 @@ module _ (scope : Scope) (h : Heading) (n : List ℕ) (x : Tree) (may : MayFix s
       let here : with_tuples (outermost scope) s ≡ scope =
       λ i. record { types = scope.types; relvars = scope.relvars; constraints = scope.constraints; entered = hand.1 i } in
       let t = may.typed.0 in
-      let found = unfailing_expressions_have_values w (outermost scope) s x t k hand.0 written may.numbers
-      (ap (λ z. type_of z x) here ∙ may.typed.2) (ap (λ z. cannot_fail z x) here ∙ may.unfailing) in
+      let found = unfailing_expressions_have_values w (outermost scope) s x t k hand.0 written may.unfailing.numbers
+      (ap (λ z. type_of z x) here ∙ may.typed.2) (ap (λ z. cannot_fail z x) here ∙ may.unfailing.never) in
       let v = found.0 in (
         v,
         plan written t may.typed.2 w s slots k hand f ∙ found.1,

@@ -77,7 +77,7 @@ module _ (scope : Scope) (w : World) (s : List Tuple) (k : GivesValues w (outerm
       → Gives (IsHeadedAndAnswered h (λ t. value_of w (t ∷ s) e)) (value_of w s d)
   answered d e h a written asked =
       gives_more (IsTypedRelation scope.types h) (IsHeadedAndAnswered h (λ t. value_of w (t ∷ s) e)) (value_of w s d)
-      (λ r g. ((g.1.0, g.0), answers scope e h w s k hand asked a.numbers a.unfailing a.condition r g.0 g.1))
+      (λ r g. ((g.1.0, g.0), answers scope e h w s k hand asked a.unfailing.numbers a.unfailing.never a.condition r g.0 g.1))
       (given_of scope.types h (value_of w s d) (kept_here d (types.relation (pack h)) written a.operand))
 
   totally : (d e : Tree) (h : Heading) → IsAnsweredIn scope d e h → IsWritten d → IsWritten e

@@ -1,17 +1,15 @@
 -- When an equality fixes an attribute (this project's own).
-use Rattle.std.specs.Prelude.{◌≡◌, ℕ, true, false, List, Some, IsTrue}
-use Rattle.std.specs.List.{Contains}
+use Rattle.std.specs.Prelude.{◌≡◌, ℕ, true, List, [], Some, IsTrue}
 use Rattle.td_check.specs.CannotFail.{cannot_fail}
 use Rattle.td_check.specs.Scopes.{Scope}
 use Rattle.td_check.specs.StaticTypes.{type_of}
-use Rattle.td_check.specs.WrittenNames.{names_in}
 use Rattle.td_eval.specs.OperatorValues.{of_truth}
 use Rattle.td_eval.specs.TreeNumbers.{HasNumbers}
 use Rattle.td_eval.specs.TreeValues.{value_of}
 use Rattle.td_eval.specs.Worlds.{World}
+use Rattle.td_plan.specs.EqualitiesOfNames.{NamesOnly}
 use Rattle.td_tree.specs.Outcomes.{Valued}
 use Rattle.td_tree.specs.Trees.{Tree}
-use Rattle.td_types.specs.Headings.{has_attribute}
 use Rattle.td_types.specs.Types.{Type', Heading, type_at}
 use Rattle.td_value.specs.Values.{Tuple}
 
@@ -19,9 +17,10 @@ use Rattle.td_value.specs.Values.{Tuple}
 abbrev pub AreOneWhere : Tree → Tree → Tree → Type 0
 AreOneWhere e a b = (w : World) (s : List Tuple) → value_of w s e ≡ of_truth true → value_of w s a ≡ value_of w s b
 
--- no attribute of the heading is named in the expression
-abbrev pub IsNamedApart : Heading → Tree → Type 0
-IsNamedApart h x = (n : List ℕ) → Contains (names_in x) n → has_attribute n h ≡ false
+-- the expression has a value: it cannot fail, and its numbers are in range
+pub record IsUnfailing (scope : Scope) (x : Tree) : Type 0 where
+  pub numbers : HasNumbers x
+  pub never : IsTrue (cannot_fail scope x)
 
 -- the expression has, in the scope, the type of the heading's attribute of the name
 abbrev pub HasTypeOf : Scope → Heading → List ℕ → Tree → Type 0
@@ -30,6 +29,5 @@ HasTypeOf scope h n x = (t : Type') × (type_at n h ≡ Some t) × (type_of scop
 -- the expression has a value of the attribute's type, which is the same for all tuples of the heading
 pub record MayFix (scope : Scope) (h : Heading) (n : List ℕ) (x : Tree) : Type 0 where
   pub typed : HasTypeOf scope h n x
-  pub unfailing : IsTrue (cannot_fail scope x)
-  pub numbers : HasNumbers x
-  pub apart : IsNamedApart h x
+  pub unfailing : IsUnfailing scope x
+  pub apart : NamesOnly [] h x

@@ -1,15 +1,14 @@
 -- Restrictions that are computed of operands of what they restrict.
 use Rattle.std.specs.declared.alloc.AllocError.{AllocError}
-use Rattle.std.specs.Prelude.{◌≡◌, IfOk, IfSome, IsTrue, List, Option, Result}
-use Rattle.td_check.specs.CannotFail.{cannot_fail}
+use Rattle.std.specs.Prelude.{◌≡◌, IfOk, IfSome, List, Option, Result}
 use Rattle.td_check.specs.Scopes.{Scope, entered_with}
 use Rattle.td_check.specs.StaticTypes.{type_of}
-use Rattle.td_eval.specs.TreeNumbers.{HasNumbers}
 use Rattle.td_eval.specs.TreeValues.{value_of}
 use Rattle.td_eval.specs.UnfailingValues.{GivesValues}
 use Rattle.td_eval.specs.Worlds.{World}
 use Rattle.td_plan.specs.declared.rewriting.push.Restricted.{Restricted}
 use Rattle.td_plan.specs.declared.rewriting.push.Restricted.TheVariants as operands
+use Rattle.td_plan.specs.Fixing.{IsUnfailing}
 use Rattle.td_plan.specs.PlansOf.{AreInHand, outermost}
 use Rattle.td_tree.specs.declared.operator.Operator.{Operator}
 use Rattle.td_tree.specs.Outcomes.{Valued}
@@ -23,8 +22,7 @@ use Rattle.td_value.specs.Values.{Tuple}
 pub record IsAnsweredIn (scope : Scope) (d e : Tree) (h : Heading) : Type 0 where
   pub operand : type_of scope d ≡ Valued (types.relation (pack h))
   pub condition : type_of (entered_with h scope) e ≡ Valued types.boolean
-  pub numbers : HasNumbers e
-  pub unfailing : IsTrue (cannot_fail (entered_with h scope) e)
+  pub unfailing : IsUnfailing (entered_with h scope) e
 
 -- the first expression is of the type, and has the value of the second, or its causes, in every world that gives values in the
 -- scope and for all tuples that may be in scope there

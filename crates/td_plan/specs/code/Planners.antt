@@ -1,5 +1,5 @@
 -- What an expression is planned in (this project's own).
-use Rattle.std.specs.Prelude.{◌≡◌, ℕ, Bool, false, suc, List, [], ◌∷◌, Option, Some, None, length, option_map, reverse, if◌then◌else◌}
+use Rattle.std.specs.Prelude.{◌≡◌, ℕ, Bool, false, suc, List, [], ◌∷◌, Option, Some, None, length, option_map, if◌then◌else◌}
 use Rattle.td_catalog.specs.Database.{Database, database_scope}
 use Rattle.td_catalog.specs.KeptDatabases.{CatalogView}
 use Rattle.td_check.specs.Scopes.{Scope}
@@ -14,9 +14,9 @@ among_headings scope hs = record { types = scope.types; relvars = scope.relvars;
 abbrev pub catalog_database : CatalogView → Database
 catalog_database catalog = catalog.database
 
--- the scope is the database's with the headings of the tuples in scope; the last is the innermost
+-- the scope is the database's, where tuples are in scope
 abbrev pub IsPlanner : {C : Type 0} → (C → Database) → Planner C → Type 0
-IsPlanner database planner = planner.scope ≡ among_headings (database_scope (database planner.catalog.now)) (reverse planner.headings.items)
+IsPlanner database planner = planner.scope ≡ among_headings (database_scope (database planner.catalog.now)) planner.scope.entered
 
 -- whether there is an attribute, of that name
 abbrev pub is_named : List ℕ → Option Attribute → Bool

@@ -91,7 +91,7 @@ fn value_alone<'a, B: Body>(
     eval(alloc, &env, expr)
 }
 
-/// What is known where an expression stands, and the headings of the tuples in scope there.
+/// What is known where an expression stands.
 #[derive(Drop)]
 pub(crate) struct Planner<'a, C> {
     pub(crate) alloc: Global,
@@ -99,8 +99,6 @@ pub(crate) struct Planner<'a, C> {
     /// The name of the relvar in whose place another relation stands.
     pub(crate) replaced: Option<&'a Name>,
     pub(crate) scope: Scope<'a>,
-    /// The innermost is the last.
-    pub(crate) headings: Vec<Heading>,
 }
 
 /// Whether the attribute at a place of a heading has the name.
@@ -148,7 +146,6 @@ impl<'a, C: Known> Planner<'a, C> {
     ) -> Planner<'a, C>
         ensures planner { IsPlanner C.database result }
         ensures scope { result.scope ≡ database_scope (C.database catalog.now) }
-        ensures headings { result.headings.items ≡ [] }
         ensures catalog { result.catalog.now ≡ catalog.now }
     {
         Planner {
@@ -156,7 +153,6 @@ impl<'a, C: Known> Planner<'a, C> {
             catalog,
             replaced,
             scope: catalog.outermost(),
-            headings: Vec::new(alloc),
         }
     }
 
@@ -166,9 +162,7 @@ impl<'a, C: Known> Planner<'a, C> {
         ensures planner { OnOk result (IsPlanner C.database self.new) }
         ensures scope { OnOk result (self.new.scope ≡ entered_with heading.now self.old.scope) }
     {
-        self.scope.enter(heading.try_clone()?)?;
-        self.headings.push(heading.try_clone()?)?;
-        Ok(())
+        self.scope.enter(heading.try_clone()?)
     }
 
     /// Where the same tuples are in hand.
@@ -178,7 +172,8 @@ impl<'a, C: Known> Planner<'a, C> {
         ensures scope { IfOk result (λ p. p.scope ≡ self.now.scope) }
     {
         let mut again = Planner::outside(self.alloc, self.catalog, self.replaced);
-        for outer in &self.headings {
+        let headings = self.scope.headings();
+        for outer in headings {
             again.enter(outer)?;
         }
         Ok(again)
@@ -212,7 +207,7 @@ impl<'a, C: Known> Planner<'a, C> {
         requires { IsPlanner C.database self.now }
         ensures { result ≡ length self.now.scope.entered }
     {
-        self.headings.len()
+        self.scope.headings().len()
     }
 
     /// The slot of the innermost attribute of the name, and its place in its heading.
@@ -220,7 +215,7 @@ impl<'a, C: Known> Planner<'a, C> {
         requires { IsPlanner C.database self.now }
         ensures { result ≡ attribute_place name.now self.now.scope.entered }
     {
-        innermost_place(&self.headings, name)
+        innermost_place(self.scope.headings(), name)
     }
 
     /// The type of an expression, if it has one.

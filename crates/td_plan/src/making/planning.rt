@@ -57,30 +57,27 @@ where
         (self.inner)(self.planner, expr)
     }
 
-    /// The step of a part, in a box.
+    /// The step of a part, in a box, where the tuples that a planner knows are in scope.
     #[inline(never)]
+    pub(crate) fn boxed_there(
+        &self,
+        planner: &Planner<'_, C>,
+        expr: &Expr,
+    ) -> Result<Box<Step>, AllocError>
+        requires below { PlansBelow C.database self.now (suc (expr_weight expr.now)) F.pre F.post }
+        requires planner { IsPlanner C.database planner.now }
+        ensures { IsBoxPlanned planner.now.scope result (tree_view expr.now) }
+    {
+        let step = (self.inner)(planner, expr)?;
+        Ok(Box::new(planner.alloc, step)?)
+    }
+
+    /// The step of a part, in a box.
     pub(crate) fn boxed_step(&self, expr: &Expr) -> Result<Box<Step>, AllocError>
         requires { PlansBelow C.database self.now (suc (expr_weight expr.now)) F.pre F.post }
         ensures { IsBoxPlanned self.now.planner.now.scope result (tree_view expr.now) }
     {
-        let step = self.step_of(expr)?;
-        Ok(Box::new(self.planner.alloc, step)?)
-    }
-
-    /// The step of a part, in a box, where a further tuple, of the heading, is in scope.
-    #[inline(never)]
-    pub(crate) fn step_inside(
-        &self,
-        heading: &Heading,
-        expr: &Expr,
-    ) -> Result<Box<Step>, AllocError>
-        requires { PlansBelow C.database self.now (suc (expr_weight expr.now)) F.pre F.post }
-        ensures { IsBoxPlanned (entered_with heading.now self.now.planner.now.scope) result
-            (tree_view expr.now) }
-    {
-        let inner = self.planner.inner_planner(heading)?;
-        let step = (self.inner)(&inner, expr)?;
-        Ok(Box::new(self.planner.alloc, step)?)
+        self.boxed_there(self.planner, expr)
     }
 
     /// The steps of expressions, in the order written.
@@ -155,9 +152,10 @@ where
         let Some(heading) = self.planner.heading_of(operand)? else {
             return self.step_of(operand);
         };
+        let inner = self.planner.inner_planner(&heading)?;
         let slot = self.planner.next_slot();
         let operand = self.boxed_step(operand)?;
-        Ok(Step::Aggregate(op, operand, slot, self.step_inside(&heading, value)?))
+        Ok(Step::Aggregate(op, operand, slot, self.boxed_there(&inner, value)?))
     }
 
     /// The step of an operand's tuples with attributes set, in either spelling.

@@ -1,9 +1,7 @@
 //! Attributes that a condition fixes to values.
-ghost use Rattle.std.specs.List.{list_any};
 ghost use Rattle.std.specs.Prelude.{◌≡◌, IfOk, IsTrue, suc};
-ghost use Rattle.td_check.specs.CannotFail as unfailing;
 ghost use Rattle.td_check.specs.Scopes.{Scope};
-ghost use Rattle.td_plan.specs.Fixing.{AreOneWhere, HasTypeOf, IsNamedApart, MayFix};
+ghost use Rattle.td_plan.specs.Fixing.{AreOneWhere, HasTypeOf, IsUnfailing, MayFix};
 ghost use Rattle.td_plan.specs.Narrowing.{AreFixed, Implies};
 ghost use Rattle.td_plan.specs.code.PlansBelow.{PlansBelow};
 ghost use Rattle.td_plan.specs.code.TreeWeights.{expr_weight};
@@ -12,7 +10,6 @@ ghost use Rattle.td_tree.specs.declared.operator.Operator.TheVariants as operato
 ghost use Rattle.td_tree.specs.code.TreeViews.{tree_view};
 ghost use Rattle.td_tree.specs.Trees.{Tree};
 ghost use Rattle.td_tree.specs.WrittenTrees.{IsWritten};
-ghost use Rattle.td_types.specs.Headings.{has_attribute};
 ghost use Rattle.td_types.specs.Types.{Heading};
 
 use crate::making::planner::{Known, Planner};
@@ -20,9 +17,9 @@ use crate::making::planning::Planning;
 use crate::plan::step::Step;
 use crate::rewriting::brief::is_brief;
 use crate::rewriting::numbers::has_numbers;
-use std::alloc::{AllocError, Global};
+use crate::rewriting::push::names_only;
+use std::alloc::AllocError;
 use td_check::cannot_fail::cannot_fail;
-use td_check::names::names_in;
 use td_check::scope::Scope;
 use td_tree::expression::Expr;
 use td_tree::fault::Fault;
@@ -35,28 +32,6 @@ use td_types::heading::Heading;
 pub(crate) struct FixedValue {
     pub(crate) name: Name,
     pub(crate) value: Step,
-}
-
-/// Whether the heading has an attribute of the name.
-fn is_attribute(heading: &Heading, name: &Name) -> bool
-    ensures { result ≡ has_attribute name.now heading.now }
-{
-    heading.get(name).is_some()
-}
-
-/// Whether it has one of one of these names.
-fn one_is_attribute(heading: &Heading, names: &[Name]) -> bool
-    ensures { result ≡ list_any (λ n. has_attribute n heading.now) names.now }
-{
-    names.iter().any(|name| is_attribute(heading, name))
-}
-
-/// Whether no attribute of the heading is named in an expression.
-fn is_named_apart(alloc: Global, heading: &Heading, value: &Expr) -> Result<bool, AllocError>
-    ensures { IfOk result (λ b. IsTrue b → IsNamedApart heading.now (tree_view value.now)) }
-{
-    let names = names_in(alloc, value)?;
-    Ok(!one_is_attribute(heading, &names))
 }
 
 /// Whether an expression has, outside of the tuples of the heading, the type of an attribute there.
@@ -80,9 +55,11 @@ fn has_type_of<C: Known>(
 
 /// Whether an expression has a value, whatever relations the base relvars hold.
 pub(crate) fn has_a_value(scope: &Scope<'_>, expr: &Expr) -> Result<bool, AllocError>
-    ensures { IfOk result
-        (λ b. IsTrue b → IsTrue (unfailing.cannot_fail scope.now (tree_view expr.now))) }
+    ensures { IfOk result (λ b. IsTrue b → IsUnfailing scope.now (tree_view expr.now)) }
 {
+    if !has_numbers(expr) {
+        return Ok(false);
+    }
     match cannot_fail(scope, expr) {
         Ok(answer) => Ok(answer),
         Err(Fault::Refused(_)) => Ok(false),
@@ -101,7 +78,8 @@ fn may_fix<C: Known>(
     ensures { IfOk result (λ b. IsTrue b
         → MayFix planner.now.scope heading.now name.now (tree_view value.now)) }
 {
-    if !is_brief(value) || !has_numbers(value) || !is_named_apart(planner.alloc, heading, value)? {
+    let none = Heading::empty(planner.alloc);
+    if !is_brief(value) || !names_only(planner.alloc, heading, &none, value)? {
         return Ok(false);
     }
     Ok(has_type_of(planner, heading, name, value)? && has_a_value(&planner.scope, value)?)

@@ -1,13 +1,11 @@
 //! Operands of WHERE that are looked up by a key.
-ghost use Rattle.std.specs.Prelude.{◌<◌, ◌≡◌, IfOk, IfSome, IsTrue, length, map};
+ghost use Rattle.std.specs.Prelude.{◌<◌, ◌≡◌, IfOk, IfSome, length, map};
 ghost use Rattle.std.specs.List.{Contains, HoldsAt};
-ghost use Rattle.td_check.specs.CannotFail.{cannot_fail};
-ghost use Rattle.td_check.specs.Scopes.{entered_with};
-ghost use Rattle.td_eval.specs.TreeNumbers.{HasNumbers};
+ghost use Rattle.td_check.specs.Scopes.{Scope, entered_with};
 ghost use Rattle.td_plan.specs.declared.rewriting.fixed.FixedValue.{FixedValue};
 ghost use Rattle.td_plan.specs.LookUps.{IsBase, MeansName};
 ghost use Rattle.td_plan.specs.Narrowing.{AreFixed, MayNarrow};
-ghost use Rattle.td_plan.specs.code.Planners.{IsPlanner};
+ghost use Rattle.td_plan.specs.Fixing.{IsUnfailing};
 ghost use Rattle.td_plan.specs.Plans as plans;
 ghost use Rattle.td_plan.specs.code.StepViews.{step_view, steps_view};
 ghost use Rattle.td_tree.specs.code.TreeViews.{tree_view};
@@ -19,7 +17,6 @@ ghost use Rattle.td_types.specs.Types.{attribute_names};
 use crate::making::planner::{Known, Planner};
 use crate::plan::step::{Selector, Step};
 use crate::rewriting::fixed::{FixedValue, has_a_value};
-use crate::rewriting::numbers::has_numbers;
 use std::alloc::{AllocError, Global};
 use td_check::scope::Kind;
 use td_tree::expression::Expr;
@@ -197,50 +194,41 @@ fn look_up_step(
 /// The names of the first key of a base relvar whose attributes are all fixed, where the condition
 /// is known to have a value in each tuple.
 fn total_key<'p, C: Known>(
-    planner: &'p Planner<'_, C>,
+    inner: &'p Planner<'_, C>,
     name: &Name,
-    heading: &Heading,
     condition: &Expr,
     fixed: &[FixedValue],
 ) -> Result<Option<&'p [Name]>, AllocError>
-    requires { IsPlanner C.database planner.now }
-    ensures numbers { IfOk result (λ found. IfSome found (λ _.
-        HasNumbers (tree_view condition.now))) }
-    ensures never { IfOk result (λ found. IfSome found (λ _.
-        IsTrue (cannot_fail (entered_with heading.now planner.now.scope)
-        (tree_view condition.now)))) }
+    ensures { IfOk result (λ found. IfSome found (λ _.
+        IsUnfailing inner.now.scope (tree_view condition.now))) }
 {
-    let Some(key) = key_of(planner, name, fixed) else {
+    let Some(key) = key_of(inner, name, fixed) else {
         return Ok(None);
     };
-    if !has_numbers(condition) {
-        return Ok(None);
-    }
-    let inner = planner.inner_planner(heading)?;
     Ok(has_a_value(&inner.scope, condition)?.then_some(key))
 }
 
 /// The look-up of the operand of WHERE that the name means, by the first declared key whose
-/// attributes the condition all fixes.
+/// attributes the condition all fixes. The inner planner knows the operand's tuple, of the heading.
 pub(crate) fn look_up_by_key<C: Known>(
-    planner: &Planner<'_, C>,
+    inner: &Planner<'_, C>,
     name: &Name,
     heading: &Heading,
     condition: &Expr,
     fixed: Result<Vec<FixedValue>, AllocError>,
 ) -> Result<Option<Box<Step>>, AllocError>
-    requires { IsPlanner C.database planner.now }
-    ensures { (d : Tree) → MeansName name.now d → IsBase planner.now.scope name.now
+    ensures { (scope : Scope) (d : Tree) → inner.now.scope ≡ entered_with heading.now scope
+        → MeansName name.now d → IsBase scope name.now
         → IfOk fixed (λ xs. IsWritten (tree_view condition.now)
-        → AreFixed planner.now.scope heading.now (tree_view condition.now) xs.items)
-        → MayNarrow planner.now.scope result d (tree_view condition.now) heading.now }
+        → AreFixed scope heading.now (tree_view condition.now) xs.items)
+        → MayNarrow scope result d (tree_view condition.now) heading.now }
 {
     let fixed = fixed?;
-    let Some(key) = total_key(planner, name, heading, condition, &fixed)? else {
+    let Some(key) = total_key(inner, name, condition, &fixed)? else {
         return Ok(None);
     };
-    match key_part(planner.alloc, heading, key, fixed)? {
-        Some(part) => Ok(Some(look_up_step(planner.alloc, name, key, part)?)),
+    match key_part(inner.alloc, heading, key, fixed)? {
+        Some(part) => Ok(Some(look_up_step(inner.alloc, name, key, part)?)),
         None => Ok(None),
     }
 }

@@ -1,9 +1,9 @@
 //! Restrictions that are computed of operands of what they restrict.
 ghost use Rattle.std.specs.Prelude.{◌&&◌, ◌≡◌, IfOk, IsTrue, not};
 ghost use Rattle.std.specs.List.{list_any};
-ghost use Rattle.td_check.specs.CannotFail.{cannot_fail};
 ghost use Rattle.td_check.specs.StaticTypes.{type_of};
 ghost use Rattle.td_plan.specs.EqualitiesOfNames.{NamesOnly};
+ghost use Rattle.td_plan.specs.Fixing.{IsUnfailing};
 ghost use Rattle.td_plan.specs.code.Planners.{IsPlanner};
 ghost use Rattle.td_plan.specs.Pushing.{IsAnsweredIn, MayBePushed};
 ghost use Rattle.td_tree.specs.declared.operator.Operator.TheVariants as operators;
@@ -17,7 +17,6 @@ ghost use Rattle.td_types.specs.Types.{attribute_names, pack};
 use crate::making::planner::{Known, Planner};
 use crate::rewriting::brief::is_brief;
 use crate::rewriting::fixed::has_a_value;
-use crate::rewriting::numbers::has_numbers;
 use std::alloc::{AllocError, Global};
 use td_check::expression::check_expr;
 use td_check::names::names_in;
@@ -39,7 +38,7 @@ pub(crate) enum Restricted {
 
 /// Whether an expression is known to have a truth value.
 fn has_a_truth_value(scope: &Scope<'_>, expr: &Expr) -> Result<bool, AllocError>
-    ensures { IfOk result (λ b. IsTrue b → IsTrue (cannot_fail scope.now (tree_view expr.now))
+    ensures { IfOk result (λ b. IsTrue b → IsUnfailing scope.now (tree_view expr.now)
         × (type_of scope.now (tree_view expr.now) ≡ Valued types.boolean)) }
 {
     if !has_a_value(scope, expr)? {
@@ -63,9 +62,6 @@ fn is_answered<C: Known>(
         → type_of planner.now.scope d ≡ Valued (types.relation (pack heading.now))
         → IsAnsweredIn planner.now.scope d (tree_view condition.now) heading.now) }
 {
-    if !has_numbers(condition) {
-        return Ok(false);
-    }
     let inner = planner.inner_planner(heading)?;
     has_a_truth_value(&inner.scope, condition)
 }
@@ -136,7 +132,7 @@ fn one_is_missing(heading: &Heading, other: &Heading, names: &[Name]) -> bool
 }
 
 /// Whether each of the heading's attributes that are named in an expression is one of the other's.
-fn names_only(
+pub(crate) fn names_only(
     alloc: Global,
     heading: &Heading,
     other: &Heading,

@@ -1,5 +1,6 @@
 //! The steps of WHERE. A condition that cannot fail restricts the operands of WHERE's operand.
-ghost use Rattle.std.specs.Prelude.{◌+◌, suc};
+ghost use Rattle.std.specs.Prelude.{◌≡◌, ◌+◌, suc};
+ghost use Rattle.td_check.specs.Scopes.{entered_with};
 ghost use Rattle.td_plan.specs.Narrowing.{IsNarrowed, MayNarrow};
 ghost use Rattle.td_plan.specs.code.PlannedParts.{IsBoxPlanned, IsPlanned};
 ghost use Rattle.td_plan.specs.code.PlansBelow.{PlansBelow};
@@ -110,27 +111,30 @@ where
         let Some(heading) = self.planner.heading_of(expr)? else {
             return self.step_of(expr);
         };
+        let inner = self.planner.inner_planner(&heading)?;
         let slot = self.planner.next_slot();
-        let operand = self.narrowed_operand(&heading, expr, condition)?;
-        let condition = self.step_inside(&heading, condition)?;
+        let operand = self.narrowed_operand(&inner, &heading, expr, condition)?;
+        let condition = self.boxed_there(&inner, condition)?;
         Ok(Step::Restriction(operand, slot, condition, origin))
     }
 
     /// The step of the operand of WHERE, in a box: a look-up by a key that the condition fixes, if
-    /// there is one, else the operand's own step.
+    /// there is one, else the operand's own step. The inner planner knows the operand's tuple too.
     #[inline(never)]
     fn narrowed_operand(
         &self,
+        inner: &Planner<'_, C>,
         heading: &Heading,
         operand: &Expr,
         condition: &Expr,
     ) -> Result<Box<Step>, AllocError>
-        requires { PlansBelow C.database self.now
+        requires below { PlansBelow C.database self.now
             (suc (expr_weight operand.now + expr_weight condition.now)) F.pre F.post }
+        requires inner { inner.now.scope ≡ entered_with heading.now self.now.planner.now.scope }
         ensures { IsNarrowed self.now.planner.now.scope result (tree_view operand.now)
             (tree_view condition.now) heading.now }
     {
-        match self.look_up_of(heading, operand, condition)? {
+        match self.look_up_of(inner, heading, operand, condition)? {
             Some(look_up) => Ok(look_up),
             None => self.boxed_step(operand),
         }
@@ -139,11 +143,14 @@ where
     /// The look-up, in a box, of the operand of WHERE by a key that the condition fixes.
     fn look_up_of(
         &self,
+        inner: &Planner<'_, C>,
         heading: &Heading,
         operand: &Expr,
         condition: &Expr,
     ) -> Result<Option<Box<Step>>, AllocError>
-        requires { PlansBelow C.database self.now (suc (expr_weight condition.now)) F.pre F.post }
+        requires below { PlansBelow C.database self.now (suc (expr_weight condition.now))
+            F.pre F.post }
+        requires inner { inner.now.scope ≡ entered_with heading.now self.now.planner.now.scope }
         ensures { MayNarrow self.now.planner.now.scope result (tree_view operand.now)
             (tree_view condition.now) heading.now }
     {
@@ -151,6 +158,6 @@ where
             return Ok(None);
         };
         let fixed = self.fixed_values(condition, heading);
-        look_up_by_key(self.planner, name, heading, condition, fixed)
+        look_up_by_key(inner, name, heading, condition, fixed)
     }
 }

@@ -55,7 +55,7 @@ fn has_key_heading(heading: &Heading, key: &[Name], part: &Tuple) -> Result<bool
     ensures { IfOk result (λ is. IsTrue is → heading_of part.now ≡ projection key.now heading.now) }
 {
     match heading.project(key) {
-        Ok(wanted) => Ok(part.heading()? == wanted),
+        Ok(wanted) => Ok(part.has_heading(&wanted)),
         Err(Fault::Refused(_)) => Ok(false),
         Err(Fault::Memory) => Err(AllocError),
     }

@@ -1,8 +1,7 @@
 use Rattle.std.proofs.Common.{◌≡◌, subst}
 use Rattle.std.proofs.lemmas.Result.{IfOk-weaker}
-use Rattle.std.specs.Prelude.{IsTrue}
-use Rattle.td_check.specs.CannotFail.{cannot_fail}
 use Rattle.td_check.specs.StaticTypes.{type_of}
+use Rattle.td_plan.specs.Fixing.{IsUnfailing}
 use Rattle.td_tree.specs.Outcomes.{Valued}
 use Rattle.td_tree.specs.code.TreeViews.{tree_view}
 use Rattle.td_types.specs.Types as types
@@ -13,6 +12,6 @@ returns g c =
     let e = tree_view c.args.condition.now in
     IfOk-weaker c.has_a_truth_value.result _ _
     (λ b given yes d static.
-    let known = subst (λ s. IsTrue (cannot_fail s e) × (type_of s e ≡ Valued types.boolean)) c.in_ok-inner.ensures.scope (given yes) in
-    record { operand = static; condition = known.1; numbers = c.has_numbers.ensures (c.if-not-has_numbers.false); unfailing = known.0 })
+    let known = subst (λ s. IsUnfailing s e × (type_of s e ≡ Valued types.boolean)) c.in_ok-inner.ensures.scope (given yes) in
+    record { operand = static; condition = known.1; unfailing = known.0 })
     c.has_a_truth_value.ensures

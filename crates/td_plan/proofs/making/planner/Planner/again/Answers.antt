@@ -7,9 +7,9 @@ use Rattle.td_plan.proofs.making.planner.Planner.again.Goals as goal
 
 pub loop-outer-preserved : goal.loop-outer-preserved
 loop-outer-preserved g c =
-    let hs = c.args.self.now.headings.items in
+    let hs = c.headings-headings.result.now in
     let within : c.loop-outer.outer-index < length hs = search rules in
-    let at = subst (λ xs. c.outer-item.result ≡ get_or xs c.loop-outer.outer-index c.outer-item.result) c.deref-outer-items.ensures.value c.outer-item.is in (
+    let at = c.outer-item.is in (
       c.in_ok-enter.ensures.planner,
       c.in_ok-enter.ensures.scope
           ∙ (λ i. entered_with c.outer-item.result (c.loop-outer.invariant.1 i))

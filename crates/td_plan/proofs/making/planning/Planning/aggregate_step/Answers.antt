@@ -9,6 +9,7 @@ use Rattle.td_tree.specs.code.TreeViews.{tree_view}
 use Rattle.td_tree.specs.Trees as trees
 use Rattle.td_types.specs.Types.{Heading, pack, relation}
 use Rattle.td_plan.proofs.PlannedTuples.{aggregation_planned}
+use Rattle.td_plan.specs.PlansOf.{IsPlanOfTyped}
 use Rattle.td_plan.specs.code.StepViews.{step_view}
 use Rattle.td_plan.proofs.making.planning.Planning.aggregate_step.Goals as goal
 
@@ -16,10 +17,12 @@ pub returns : goal.returns
 returns g c =
     let scope = c.args.self.now.planner.now.scope in
     let d = tree_view c.args.operand.now in
-    aggregation_planned scope c.args.op (step_view c.in_ok-operand.operand.value) c.next_slot-slot.result (step_view c.in_ok-step_inside.field-0.value)
-    d (tree_view c.args.value.now) c.in-Some.heading c.next_slot-slot.ensures c.in_ok-operand.ensures
+    let e = tree_view c.args.value.now in
+    let value = step_view c.in_ok-boxed_there.field-0.value in
+    aggregation_planned scope c.args.op (step_view c.in_ok-operand.operand.value) c.next_slot-slot.result value
+    d e c.in-Some.heading c.next_slot-slot.ensures c.in_ok-operand.ensures
     (subst (λ o. IfSome o (λ h. type_of scope d ≡ Valued (relation (pack h)))) c.in-Some.is c.in_ok-heading.ensures.some)
-    c.in_ok-step_inside.ensures
+    (subst (λ s. IsPlanOfTyped s value e) c.in_ok-inner.ensures.scope c.in_ok-boxed_there.ensures)
 
 pub returns-in_default : goal.returns-in_default
 returns-in_default g c =

@@ -10,6 +10,7 @@ use Rattle.td_tree.specs.code.TreeViews.{tree_view}
 use Rattle.td_types.specs.Types.{Heading, pack}
 use Rattle.td_types.specs.Types as types
 use Rattle.td_plan.proofs.PlannedTuples.{restriction_planned}
+use Rattle.td_plan.specs.PlansOf.{IsPlanOfTyped}
 use Rattle.td_plan.specs.code.StepViews.{step_view}
 use Rattle.td_plan.proofs.making.planning.Planning.where_here.Goals as goal
 
@@ -18,8 +19,11 @@ returns g c =
     let scope = c.args.self.now.planner.now.scope in
     let d = tree_view c.args.expr.now in
     let static = subst (λ o. IfSome o (λ h. type_of scope d ≡ Valued (types.relation (pack h)))) c.in-Some.is c.in_ok-heading.ensures.some in
-    restriction_planned scope (step_view c.in_ok-operand.operand.value) c.next_slot-slot.result (step_view c.in_ok-condition.condition.value)
-    d (tree_view c.args.condition.now) c.in-Some.heading c.next_slot-slot.ensures (c.in_ok-operand.ensures static) static c.in_ok-condition.ensures
+    let e = tree_view c.args.condition.now in
+    let condition = step_view c.in_ok-condition.condition.value in
+    restriction_planned scope (step_view c.in_ok-operand.operand.value) c.next_slot-slot.result condition
+    d e c.in-Some.heading c.next_slot-slot.ensures (c.in_ok-operand.ensures static) static
+    (subst (λ s. IsPlanOfTyped s condition e) c.in_ok-inner.ensures.scope c.in_ok-condition.ensures)
 
 pub returns-in_default : goal.returns-in_default
 returns-in_default g c =
