@@ -1,4 +1,4 @@
-use Rattle.std.proofs.Common.{◌≡◌, ◌∙◌, ◌<◌, ap, get_or, length, rules, subst, sym}
+use Rattle.std.proofs.Common.{◌∙◌, ◌<◌, ap, length, rules, sym}
 use Rattle.td_catalog.specs.Database.{database_scope}
 use Rattle.td_check.specs.Scopes.{entered_with}
 use Rattle.td_plan.specs.code.Planners.{among_headings}

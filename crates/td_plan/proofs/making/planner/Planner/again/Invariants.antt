@@ -6,4 +6,4 @@ use Rattle.td_plan.proofs.making.planner.Planner.again.Given as goal
 abbrev pub invariant-loop-outer : goal.invariant-loop-outer
 invariant-loop-outer g l =
     IsPlanner g.C.Known.database l.again
-    × (l.again.scope ≡ among_headings (database_scope (g.C.Known.database l.self.catalog.now)) (reverse (take l.outer-index l.headings.now)))
+    × (l.again.scope ≡ among_headings (database_scope (g.C.Known.database l.self.catalog.now)) (reverse (take l.outer-index l.headings)))
