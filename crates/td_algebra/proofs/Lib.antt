@@ -28,3 +28,4 @@ pub mod Settings
 pub mod Sources
 pub mod Taken
 pub mod United
+pub mod Whole

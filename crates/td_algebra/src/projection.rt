@@ -59,8 +59,13 @@ pub fn project(alloc: Global, rel: &Rel, names: &[Name]) -> Result<Rel, AllocErr
     requires { IsTrue (has_projection names.now rel.now.heading) }
     ensures { IfOk result (λ r. r ≡ projected_relation names.now rel.now) }
 {
-    let heading = without_refusal(rel.heading().project(names))?;
-    let layout = kept_layout(alloc, rel.heading(), &heading)?;
+    let operand = rel.heading();
+    let heading = without_refusal(operand.project(names))?;
+    if heading.len() == operand.len() {
+        rel.reveal();
+        return rel.try_clone();
+    }
+    let layout = kept_layout(alloc, operand, &heading)?;
     let rows = distinct(alloc, &layout, rel.rows())?;
     Rel::new(heading, rows)
 }

@@ -14,6 +14,7 @@ pub mod Made
 pub mod Maps
 pub mod Members
 pub mod Named
+pub mod Numbering
 pub mod Own
 pub mod Packed
 pub mod Placed

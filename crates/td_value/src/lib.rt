@@ -7,6 +7,7 @@ pub mod laws;
 mod lists;
 mod literal;
 pub mod names;
+mod numbered;
 mod order;
 pub mod relation;
 pub mod sharing;

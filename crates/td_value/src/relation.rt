@@ -10,6 +10,7 @@ ghost use Rattle.td_value.specs.Values.{with_tuple, without_tuple};
 ghost use Rattle.td_value.specs.code.Views.{relation_view};
 
 use crate::lists::put;
+use crate::numbered::{are_worth_numbering, in_order_by_numbers};
 use crate::order::compare_by_values;
 use crate::sharing::gathered;
 use crate::tuple::Tuple;
@@ -64,18 +65,32 @@ fn ascend(rows: &[Tuple]) -> bool
     true
 }
 
+/// The tuples in their order, each once, by the values of each.
+fn in_order_by_values(rows: Vec<Tuple>) -> Vec<Tuple>
+    requires { HaveSameNames rows.items }
+    ensures { result.items ≡ set_of tuple_cmp rows.items }
+{
+    let mut rows = rows;
+    rows.sort_unstable_by(|a, b| compare_by_values(a, b));
+    rows.dedup();
+    rows.shrink_to_fit();
+    rows
+}
+
 /// The tuples in their order, each once.
 fn in_order(rows: Vec<Tuple>) -> Vec<Tuple>
     requires { HaveSameNames rows.items }
     ensures { result.items ≡ set_of tuple_cmp rows.items }
 {
-    let mut rows = rows;
-    if !ascend(&rows) {
-        rows.sort_unstable_by(|a, b| compare_by_values(a, b));
-        rows.dedup();
-        rows.shrink_to_fit();
+    if ascend(&rows) {
+        return rows;
     }
-    rows
+    if are_worth_numbering(&rows) {
+        if let Ok(list) = Vec::with_capacity(*rows.allocator(), rows.len()) {
+            return in_order_by_numbers(rows, list);
+        }
+    }
+    in_order_by_values(rows)
 }
 
 /// The tuples again, in a list of their own with room for so many.
