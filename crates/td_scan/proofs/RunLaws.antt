@@ -12,7 +12,7 @@ use Rattle.td_tree.specs.declared.token.Kind.TheVariants as kinds
 use Rattle.td_tree.specs.declared.token.Sign.{Sign}
 use Rattle.td_tree.specs.Keywords.{keyword_of, keywords, word_of}
 use Rattle.td_tree.specs.Names.{begins_the, is_word_more, is_word_start}
-use Rattle.td_tree.specs.Pieces.{goes_on, opens, sign_or_word, word_kind, word_kind_of}
+use Rattle.td_tree.specs.Pieces.{goes_on, is_blank, opens, sign_at, sign_or_word, word_kind, word_kind_of}
 use Rattle.td_tree.specs.Symbols.{Symbol, symbols}
 use Rattle.td_tree.proofs.law_lemmas.SymbolLaws.{front_ascii}
 use Rattle.td_tree.proofs.law_lemmas.WordStarts.{ascii_more, ascii_start, start_no_bar, start_no_blank, start_no_digit, start_no_quote, start_no_sign}
@@ -212,6 +212,13 @@ pub letter_opens : (b : ℕ) → (is_ascii_alphabetic b || (b == 95)) ≡ true �
 letter_opens b letter =
     let ascii : b < 128 = grind (arith, nat_tests) in
     opens_word b (ascii_start b ascii ∙ letter)
+
+-- a digit begins a number
+pub digit_opens : (b : ℕ) → is_ascii_digit b ≡ true → opens (Some b) ≡ Number
+unfolding opens
+digit_opens b digit =
+    let blank : is_blank b ≡ false = grind (arith, nat_tests) in
+    λ i. opened (blank i) (digit i) (b == 39) (b == 124) (sign_at b) (is_word_start b)
 
 -- ---- what a word of one byte is
 

@@ -3,7 +3,7 @@ ghost use Rattle.std.specs.Prelude.{◌≡◌, ◌==◌, ◌||◌, ◌+◌, ◌<
 ghost use Rattle.std.specs.Prelude.{Option, Some, drop, false, length, slice_index, true};
 ghost use Rattle.std.specs.Char.{is_ascii_alphabetic, is_ascii_alphanumeric, is_ascii_digit};
 ghost use Rattle.td_scan.specs.code.Fronts.{end_from};
-ghost use Rattle.td_tree.specs.Pieces.{goes_on, is_blank, kind_after, opens, sign_goes_on};
+ghost use Rattle.td_tree.specs.Pieces.{goes_on, is_blank, kind_after, opens, sign_goes_on, word_kind};
 ghost use Rattle.td_tree.specs.Statements.{tokens};
 ghost use Rattle.td_tree.specs.Symbols.{symbols};
 
@@ -12,7 +12,7 @@ use td_tree::token::{Kind, Sign};
 
 /// Whether the byte is an ASCII letter or `_`.
 #[inline]
-fn begins_word(byte: u8) -> bool
+pub(crate) fn begins_word(byte: u8) -> bool
     ensures { result ≡ (is_ascii_alphabetic byte || (byte == 95)) }
 {
     byte.is_ascii_alphabetic() || byte == b'_'
@@ -42,6 +42,17 @@ pub(crate) fn opens_ascii(byte: u8) -> Piece
     }
 }
 
+/// What a word with these bytes is.
+#[inline]
+pub(crate) fn word_kind(text: &[u8]) -> Kind
+    ensures { result ≡ word_kind text.now }
+{
+    if text.len() == 1 {
+        return Kind::Name;
+    }
+    Kind::of_word(text)
+}
+
 /// What the piece is, with these bytes; `None` for a blank or a comment, which are no tokens.
 #[inline]
 pub(crate) fn kind(piece: Piece, text: &[u8]) -> Option<Kind>
@@ -49,7 +60,7 @@ pub(crate) fn kind(piece: Piece, text: &[u8]) -> Option<Kind>
 {
     match piece {
         Piece::Blank | Piece::LineComment | Piece::Comment => None,
-        Piece::Word if text.len() == 1 => Some(Kind::Name),
+        Piece::Word => Some(word_kind(text)),
         Piece::Number => Some(Kind::Number),
         Piece::Sign(sign) => Some(Kind::Sign(sign)),
         _ => piece.kind(text),
@@ -91,12 +102,17 @@ fn is_plain(byte: u8) -> bool
 
 /// How many letters, digits and `_` stand at the front, each in ASCII.
 #[inline]
-fn plain_length(bytes: &[u8]) -> usize
+pub(crate) fn plain_length(bytes: &[u8]) -> usize
     ensures all { (k : ℕ) → k < result → let b = slice_index bytes.now k
         in (is_ascii_alphanumeric b || (b == 95)) ≡ true }
+    ensures stops { result < length bytes.now → let b = slice_index bytes.now result
+        in (is_ascii_alphanumeric b || (b == 95)) ≡ false }
     ensures within { result ≤ length bytes.now }
 {
     for (index, byte) in bytes.iter().enumerate() {
+        if byte.is_ascii_alphabetic() {
+            continue;
+        }
         if !is_plain(*byte) {
             return index;
         }
@@ -106,8 +122,10 @@ fn plain_length(bytes: &[u8]) -> usize
 
 /// How many digits stand at the front, each in ASCII.
 #[inline]
-fn digit_length(bytes: &[u8]) -> usize
+pub(crate) fn digit_length(bytes: &[u8]) -> usize
     ensures all { (k : ℕ) → k < result → is_ascii_digit (slice_index bytes.now k) ≡ true }
+    ensures stops { result < length bytes.now
+        → is_ascii_digit (slice_index bytes.now result) ≡ false }
     ensures within { result ≤ length bytes.now }
 {
     for (index, byte) in bytes.iter().enumerate() {
