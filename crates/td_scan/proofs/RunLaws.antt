@@ -6,6 +6,7 @@ use Rattle.std.specs.Char.{is_ascii_alphabetic, is_ascii_alphanumeric, is_ascii_
 use Rattle.std.specs.List.{list_all}
 use Rattle.std.specs.Str.{str_eq_ignore_ascii_case}
 use Rattle.td_tree.specs.declared.keyword.Keyword.{Keyword}
+use Rattle.td_tree.specs.declared.keyword.Keyword.TheVariants.{Add}
 use Rattle.td_tree.specs.declared.piece.Piece.{Piece}
 use Rattle.td_tree.specs.declared.piece.Piece.TheVariants.{Bar, Blank, Word, Number, OpenText, Text, LineComment, OpenComment, StarredComment}
 use Rattle.td_tree.specs.declared.token.Kind.TheVariants as kinds
@@ -252,3 +253,16 @@ one_is_name [] one = absurd (omega arith)
 one_is_name (b ∷ []) one =
     ap (λ o. word_kind_of o (begins_the (b ∷ []))) (no_keyword b) ∙ ap (word_kind_of None) (and_none (nat_eq (to_ascii_lowercase b) 116))
 one_is_name (b ∷ c ∷ text) one = absurd (omega arith)
+
+-- ---- what a reserved word in capitals is
+
+spells_itself : (k : Keyword) → keyword_of (word_of k) ≡ Some k
+unfolding keyword_of
+spells_itself Add = refl
+spells_itself _ = refl
+
+-- a reserved word
+pub is_reserved : (k : Keyword) (text : List ℕ) → word_of k ≡ text → kinds.Reserved k ≡ word_kind text
+unfolding word_kind
+is_reserved k text same =
+    sym (ap (λ o. word_kind_of o (begins_the (word_of k))) (spells_itself k)) ∙ ap word_kind same

@@ -7,6 +7,7 @@ ghost use Rattle.td_tree.specs.Pieces.{goes_on, is_blank, kind_after, opens, sig
 ghost use Rattle.td_tree.specs.Statements.{tokens};
 ghost use Rattle.td_tree.specs.Symbols.{symbols};
 
+use td_tree::keyword::Keyword;
 use td_tree::piece::Piece;
 use td_tree::token::{Kind, Sign};
 
@@ -42,6 +43,44 @@ pub(crate) fn opens_ascii(byte: u8) -> Piece
     }
 }
 
+/// A reserved word that the bytes may be: one that begins with their first letter and that scripts
+/// have often.
+fn frequent_word(text: &[u8]) -> Option<Keyword> {
+    match text.first()?.to_ascii_uppercase() {
+        b'A' => Some(Keyword::And),
+        b'B' => Some(Keyword::Base),
+        b'C' => Some(Keyword::Char),
+        b'D' => Some(Keyword::Delete),
+        b'E' => Some(Keyword::Extend),
+        b'F' => Some(Keyword::From),
+        b'G' => Some(Keyword::Group),
+        b'I' if text.len() == 6 => Some(Keyword::Insert),
+        b'I' => Some(Keyword::Integer),
+        b'J' => Some(Keyword::Join),
+        b'K' => Some(Keyword::Key),
+        b'M' => Some(Keyword::Minus),
+        b'N' => Some(Keyword::Not),
+        b'O' => Some(Keyword::Or),
+        b'R' => Some(Keyword::Relation),
+        b'S' => Some(Keyword::Summarize),
+        b'T' => Some(Keyword::Tuple),
+        b'U' => Some(Keyword::Update),
+        b'V' => Some(Keyword::Var),
+        b'W' => Some(Keyword::Where),
+        _ => None,
+    }
+}
+
+/// What a word of several bytes is: a reserved word is most often in capitals.
+fn long_word_kind(text: &[u8]) -> Kind
+    ensures { result ≡ word_kind text.now }
+{
+    match frequent_word(text) {
+        Some(keyword) if keyword.word().as_bytes() == text => Kind::Reserved(keyword),
+        _ => Kind::of_word(text),
+    }
+}
+
 /// What a word with these bytes is.
 #[inline]
 pub(crate) fn word_kind(text: &[u8]) -> Kind
@@ -50,7 +89,7 @@ pub(crate) fn word_kind(text: &[u8]) -> Kind
     if text.len() == 1 {
         return Kind::Name;
     }
-    Kind::of_word(text)
+    long_word_kind(text)
 }
 
 /// What the piece is, with these bytes; `None` for a blank or a comment, which are no tokens.
