@@ -4,7 +4,8 @@ use Rattle.std.specs.Prelude.{◌==◌, ◌||◌, ◌&&◌, find, nat_eq, nat_lt
 use Rattle.std.proofs.lemmas.Bool.Decides.{nat_tests}
 use Rattle.std.specs.Char.{is_ascii_alphabetic, is_ascii_alphanumeric, is_ascii_digit, to_ascii_lowercase}
 use Rattle.std.specs.List.{list_all}
-use Rattle.std.specs.Str.{str_eq_ignore_ascii_case}
+use Rattle.std.specs.Str.{bytes_eq, str_eq_ignore_ascii_case, str_to_ascii_lowercase}
+use Rattle.std.proofs.lemmas.Slice.Eq.{bytes_eq-Decides}
 use Rattle.td_tree.specs.declared.keyword.Keyword.{Keyword}
 use Rattle.td_tree.specs.declared.keyword.Keyword.TheVariants.{Add}
 use Rattle.td_tree.specs.declared.piece.Piece.{Piece}
@@ -254,15 +255,17 @@ one_is_name (b ∷ []) one =
     ap (λ o. word_kind_of o (begins_the (b ∷ []))) (no_keyword b) ∙ ap (word_kind_of None) (and_none (nat_eq (to_ascii_lowercase b) 116))
 one_is_name (b ∷ c ∷ text) one = absurd (omega arith)
 
--- ---- what a reserved word in capitals is
+-- ---- what a reserved word is
 
 spells_itself : (k : Keyword) → keyword_of (word_of k) ≡ Some k
 unfolding keyword_of
 spells_itself Add = refl
 spells_itself _ = refl
 
--- a reserved word
-pub is_reserved : (k : Keyword) (text : List ℕ) → word_of k ≡ text → kinds.Reserved k ≡ word_kind text
-unfolding word_kind
-is_reserved k text same =
-    sym (ap (λ o. word_kind_of o (begins_the (word_of k))) (spells_itself k)) ∙ ap word_kind same
+-- a reserved word in any ASCII case
+pub is_reserved : (k : Keyword) (text : List ℕ) → str_eq_ignore_ascii_case (word_of k) text ≡ true → kinds.Reserved k ≡ word_kind text
+unfolding word_kind keyword_of
+is_reserved k text spelled =
+    let lower : List ℕ = str_to_ascii_lowercase text in
+    let same : str_to_ascii_lowercase (word_of k) ≡ lower = (bytes_eq-Decides (str_to_ascii_lowercase (word_of k)) lower).0 spelled in
+    sym (ap (λ o. word_kind_of o (begins_the text)) (ap (λ t. find (λ j. bytes_eq (str_to_ascii_lowercase (word_of j)) t) keywords) (sym same) ∙ spells_itself k))

@@ -71,12 +71,12 @@ fn frequent_word(text: &[u8]) -> Option<Keyword> {
     }
 }
 
-/// What a word of several bytes is: a reserved word is most often in capitals.
+/// What a word of several bytes is: the reserved words that scripts have often are told first.
 fn long_word_kind(text: &[u8]) -> Kind
     ensures { result ≡ word_kind text.now }
 {
     match frequent_word(text) {
-        Some(keyword) if keyword.word().as_bytes() == text => Kind::Reserved(keyword),
+        Some(keyword) if keyword.is_spelled_by(text) => Kind::Reserved(keyword),
         _ => Kind::of_word(text),
     }
 }
@@ -99,7 +99,8 @@ pub(crate) fn kind(piece: Piece, text: &[u8]) -> Option<Kind>
 {
     match piece {
         Piece::Blank | Piece::LineComment | Piece::Comment => None,
-        Piece::Word => Some(word_kind(text)),
+        Piece::Word if text.len() == 1 => Some(Kind::Name),
+        Piece::Word => Some(long_word_kind(text)),
         Piece::Number => Some(Kind::Number),
         Piece::Sign(sign) => Some(Kind::Sign(sign)),
         _ => piece.kind(text),
