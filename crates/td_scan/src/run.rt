@@ -3,7 +3,8 @@ ghost use Rattle.std.specs.Prelude.{◌≡◌, ◌==◌, ◌||◌, ◌+◌, ◌<
 ghost use Rattle.std.specs.Prelude.{Option, Some, drop, false, length, slice_index, true};
 ghost use Rattle.std.specs.Char.{is_ascii_alphabetic, is_ascii_alphanumeric, is_ascii_digit};
 ghost use Rattle.td_scan.specs.code.Fronts.{end_from};
-ghost use Rattle.td_tree.specs.Pieces.{goes_on, is_blank, kind_after, opens, sign_goes_on, word_kind};
+ghost use Rattle.td_tree.specs.Pieces.{goes_on, is_blank, kind_after, opens, sign_goes_on};
+ghost use Rattle.td_tree.specs.Pieces.{word_kind};
 ghost use Rattle.td_tree.specs.Statements.{tokens};
 ghost use Rattle.td_tree.specs.Symbols.{symbols};
 

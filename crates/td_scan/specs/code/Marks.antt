@@ -97,13 +97,14 @@ pub record IsFirst (bytes : List ℕ) (f : First) : Type 0 where
   pub within : f.length ≤ length bytes
   pub same : (later : List ℕ) → first_end (symbols (bytes ++ later)) ≡ (f.length, f.piece)
 
--- the first piece of the bytes is a token of this kind, whatever follows them
+-- the first piece of the bytes is this token, whatever follows them
 pub record IsToken (bytes : List ℕ) (t : FirstToken) : Type 0 where
   pub some : 0 < t.length
   pub within : t.length ≤ length bytes
   pub same : (at : ℕ) (later : List ℕ)
       → marks_of at (bytes ++ later)
-      ≡ mark_if (Some t.kind) at (at + t.length) ++ marks_of (at + t.length) (drop t.length bytes ++ later)
+      ≡ mark_if (Some t.kind) at (at + t.length)
+      ++ marks_of (at + t.length) (drop t.length bytes ++ later)
 
 -- the sign that the byte is goes on with no symbol
 pub record IsWholeSign (byte : ℕ) (sign : Sign) : Type 0 where
