@@ -1,6 +1,7 @@
 pub mod BlankLaws
 pub mod CourseLaws
 pub mod FirstLaws
+pub mod FrontLaws
 pub mod HeldMarks
 pub mod KnownLaws
 pub mod LastLaws

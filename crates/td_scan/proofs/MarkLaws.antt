@@ -1,12 +1,12 @@
 -- The marks of tokens that are read piece by piece, whatever follows.
-use Rattle.std.proofs.Common.{◌≡◌, ℕ, ◌+◌, List, [], ◌∷◌, ◌++◌, length, take, drop, map, refl, sym, ap, ◌∙◌, arith, Option, Some, None, append-nil, length-append, ◌≤◌}
-use Rattle.std.proofs.lemmas.List.{drop-append-le, length-take, take-append-le}
+use Rattle.std.proofs.Common.{◌≡◌, ℕ, ◌+◌, List, [], ◌∷◌, ◌++◌, length, take, drop, map, refl, sym, ap, ◌∙◌, arith, Option, Some, None, append_assoc, append-nil, length-append, drop-drop, take_all, ◌-◌, ◌≤◌}
+use Rattle.std.proofs.lemmas.List.{drop-append-le, length-drop, length-take, take-append-le, take-take}
 use Rattle.td_tree.specs.declared.token.Kind.{Kind}
 use Rattle.td_tree.specs.Pieces.{kind_after}
 use Rattle.td_tree.specs.Statements.{token_of, tokens}
 use Rattle.td_scan.specs.declared.piece.First.{First}
 use Rattle.td_scan.specs.declared.token.Mark.{Mark}
-use Rattle.td_scan.specs.code.Marks.{IsBegun, IsFirst, end_of_marks, mark_if, mark_of, marks_of}
+use Rattle.td_scan.specs.code.Marks.{AreRead, IsBegun, IsFirst, end_of_marks, mark_if, mark_of, marks_of}
 use Rattle.td_scan.proofs.FirstLaws.{tokens_of_first}
 
 -- of a piece nothing was read
@@ -61,3 +61,45 @@ kept_if old new (Some kind) start stop kept = kept_more old new (record { kind =
 pub past_if : (low : ℕ) (ms : List Mark) (kind : Option Kind) (start stop : ℕ) → end_of_marks low ms ≤ start → start ≤ stop → end_of_marks low (ms ++ mark_if kind start stop) ≤ stop
 past_if low ms None start stop past more = omega (arith, ap (end_of_marks low) (append-nil ms))
 past_if low ms (Some kind) start stop past more = omega (arith, end_more low ms (record { kind = kind; start = start; stop = stop }))
+
+-- ---- as far as they are read
+
+-- no token
+pub nothing_read : (ms : List Mark) (at : ℕ) (bs : List ℕ) → AreRead ms ms at bs at
+nothing_read ms at bs =
+    record {
+      from = omega arith;
+      within = omega arith;
+      kept = take_all (length ms) ms (omega arith);
+      past = λ low before. before;
+      same = λ later. ap (λ k. ms ++ marks_of at (drop k bs ++ later)) (let k : 0 ≡ at - at = omega arith in k);
+    }
+
+-- and then on from there
+pub read_then : (old mid new : List Mark) (at between to : ℕ) (bs : List ℕ) → AreRead old mid at bs between → AreRead mid new between (drop (between - at) bs) to → AreRead old new at bs to
+read_then old mid new at between to bs one two =
+    record {
+      from = omega (arith, one.from, two.from);
+      within = omega (arith, one.from, one.within, two.from, two.within, length-drop (between - at) bs);
+      kept = sym (take-take (length old) (length mid) new (omega (arith, ap length one.kept, length-take (length old) mid))) ∙ ap (take (length old)) two.kept ∙ one.kept;
+      past = λ low before. two.past low (one.past low before);
+      same = λ later. one.same later ∙ two.same later
+          ∙ ap (λ b. new ++ marks_of to (b ++ later)) (drop-drop (to - between) (between - at) bs ∙ ap (λ k. drop k bs) (let k : between - at + (to - between) ≡ to - at = omega (arith, one.from, two.from) in k));
+    }
+
+-- one piece, and the blanks behind it
+pub piece_read : (ms : List Mark) (at n m : ℕ) (bs : List ℕ) (kind : Option Kind) → n ≤ length bs → m ≤ length (drop n bs)
+    → ((later : List ℕ) → marks_of at (bs ++ later) ≡ mark_if kind at (at + n) ++ marks_of (at + n) (drop n bs ++ later))
+    → ((from : ℕ) (later : List ℕ) → tokens from (drop n bs ++ later) ≡ tokens (from + m) (drop m (drop n bs) ++ later))
+    → AreRead ms (ms ++ mark_if kind at (at + n)) at bs (at + n + m)
+piece_read ms at n m bs kind within blanks marked same =
+    record {
+      from = omega arith;
+      within = omega (arith, within, blanks, length-drop n bs);
+      kept = kept_if ms ms kind at (at + n) (take_all (length ms) ms (omega arith));
+      past = λ low before. omega (arith, past_if low ms kind at (at + n) before (omega arith));
+      same = λ later. ap (λ r. ms ++ r) (marked later)
+          ∙ sym (append_assoc ms (mark_if kind at (at + n)) (marks_of (at + n) (drop n bs ++ later)))
+          ∙ ap (λ ts. (ms ++ mark_if kind at (at + n)) ++ map mark_of ts) (same (at + n) later)
+          ∙ ap (λ b. (ms ++ mark_if kind at (at + n)) ++ marks_of (at + n + m) (b ++ later)) (drop-drop m n bs ∙ ap (λ k. drop k bs) (let k : n + m ≡ at + n + m - at = omega arith in k));
+    }

@@ -4,15 +4,17 @@ use Rattle.std.specs.Prelude.{◌==◌, ◌||◌, ◌&&◌, find, nat_eq, nat_lt
 use Rattle.std.proofs.lemmas.Bool.Decides.{nat_tests}
 use Rattle.std.specs.Char.{is_ascii_alphabetic, is_ascii_alphanumeric, is_ascii_digit, to_ascii_lowercase}
 use Rattle.std.specs.List.{list_all}
-use Rattle.std.specs.Str.{str_eq_ignore_ascii_case}
+use Rattle.std.specs.Str.{bytes_eq, str_eq_ignore_ascii_case, str_to_ascii_lowercase}
+use Rattle.std.proofs.lemmas.Slice.Eq.{bytes_eq-Decides}
 use Rattle.td_tree.specs.declared.keyword.Keyword.{Keyword}
+use Rattle.td_tree.specs.declared.keyword.Keyword.TheVariants.{Add}
 use Rattle.td_tree.specs.declared.piece.Piece.{Piece}
 use Rattle.td_tree.specs.declared.piece.Piece.TheVariants.{Bar, Blank, Word, Number, OpenText, Text, LineComment, OpenComment, StarredComment}
 use Rattle.td_tree.specs.declared.token.Kind.TheVariants as kinds
 use Rattle.td_tree.specs.declared.token.Sign.{Sign}
 use Rattle.td_tree.specs.Keywords.{keyword_of, keywords, word_of}
 use Rattle.td_tree.specs.Names.{begins_the, is_word_more, is_word_start}
-use Rattle.td_tree.specs.Pieces.{goes_on, opens, sign_or_word, word_kind, word_kind_of}
+use Rattle.td_tree.specs.Pieces.{goes_on, is_blank, opens, sign_at, sign_or_word, word_kind, word_kind_of}
 use Rattle.td_tree.specs.Symbols.{Symbol, symbols}
 use Rattle.td_tree.proofs.law_lemmas.SymbolLaws.{front_ascii}
 use Rattle.td_tree.proofs.law_lemmas.WordStarts.{ascii_more, ascii_start, start_no_bar, start_no_blank, start_no_digit, start_no_quote, start_no_sign}
@@ -213,6 +215,13 @@ letter_opens b letter =
     let ascii : b < 128 = grind (arith, nat_tests) in
     opens_word b (ascii_start b ascii ∙ letter)
 
+-- a digit begins a number
+pub digit_opens : (b : ℕ) → is_ascii_digit b ≡ true → opens (Some b) ≡ Number
+unfolding opens
+digit_opens b digit =
+    let blank : is_blank b ≡ false = grind (arith, nat_tests) in
+    λ i. opened (blank i) (digit i) (b == 39) (b == 124) (sign_at b) (is_word_start b)
+
 -- ---- what a word of one byte is
 
 and_none : (a : Bool) → (a && false) ≡ false
@@ -245,3 +254,18 @@ one_is_name [] one = absurd (omega arith)
 one_is_name (b ∷ []) one =
     ap (λ o. word_kind_of o (begins_the (b ∷ []))) (no_keyword b) ∙ ap (word_kind_of None) (and_none (nat_eq (to_ascii_lowercase b) 116))
 one_is_name (b ∷ c ∷ text) one = absurd (omega arith)
+
+-- ---- what a reserved word is
+
+spells_itself : (k : Keyword) → keyword_of (word_of k) ≡ Some k
+unfolding keyword_of
+spells_itself Add = refl
+spells_itself _ = refl
+
+-- a reserved word in any ASCII case
+pub is_reserved : (k : Keyword) (text : List ℕ) → str_eq_ignore_ascii_case (word_of k) text ≡ true → kinds.Reserved k ≡ word_kind text
+unfolding word_kind keyword_of
+is_reserved k text spelled =
+    let lower : List ℕ = str_to_ascii_lowercase text in
+    let same : str_to_ascii_lowercase (word_of k) ≡ lower = (bytes_eq-Decides (str_to_ascii_lowercase (word_of k)) lower).0 spelled in
+    sym (ap (λ o. word_kind_of o (begins_the text)) (ap (λ t. find (λ j. bytes_eq (str_to_ascii_lowercase (word_of j)) t) keywords) (sym same) ∙ spells_itself k))

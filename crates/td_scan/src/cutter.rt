@@ -13,7 +13,7 @@ ghost use Rattle.td_tree.specs.Statements.{first_statement};
 ghost use Rattle.td_tree.specs.Statements.{is_end, tokens};
 
 use crate::queue::Queue;
-use crate::reading::{Place, may_end, read_on};
+use crate::reading::{Place, bytes_from, may_end, read_on};
 use crate::token::{Mark, Token, first_token};
 use std::alloc::{AllocError, Global};
 use std::marker::Model;
@@ -49,15 +49,6 @@ fn end_of_marks(marks: &[Mark], offset: u64) -> u64
     }
 }
 
-/// The bytes from a place on.
-fn bytes_from(bytes: &[u8], offset: u64, start: u64) -> &[u8]
-    requires from { offset ≤ start }
-    requires within { start - offset ≤ length bytes.now }
-    ensures { result.now ≡ drop (start - offset) bytes.now }
-{
-    bytes.split_at((start - offset) as usize).1
-}
-
 /// The tokens of the marks, in bytes that begin at this offset of a script.
 fn tokens_of<'a>(
     alloc: Global,
@@ -71,7 +62,7 @@ fn tokens_of<'a>(
 {
     let mut tokens = Vec::with_capacity(alloc, marks.len() + 1)?;
     for mark in marks {
-        tokens.push(mark.token(bytes, offset))?;
+        tokens.push_reserved(mark.token(bytes, offset));
     }
     Ok(tokens)
 }

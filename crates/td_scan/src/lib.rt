@@ -2,6 +2,7 @@
 #![tactic(auto)]
 
 pub mod cutter;
+mod front;
 pub mod laws;
 mod piece;
 mod queue;

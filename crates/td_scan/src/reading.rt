@@ -3,12 +3,13 @@ ghost use Rattle.std.specs.Prelude.{◌≡◌, ◌+◌, ◌-◌, ◌<◌, ◌≤
 ghost use Rattle.std.specs.Prelude.{IfErr, IfNone, IsFalse, IsTrue, None, OnErr, OnOk, drop};
 ghost use Rattle.std.specs.Prelude.{length, take};
 ghost use Rattle.td_scan.specs.code.Fronts.{end_from};
-ghost use Rattle.td_scan.specs.code.Marks.{IsBegun, IsFirst, IsRead, is_end_piece, mark_if};
+ghost use Rattle.td_scan.specs.code.Marks.{AreRead, IsBegun, IsFirst, IsRead, is_end_piece};
 ghost use Rattle.td_scan.specs.code.Marks.{read_of};
 ghost use Rattle.td_tree.specs.Division.{up_to};
 ghost use Rattle.td_tree.specs.Statements.{ends, tokens};
 ghost use Rattle.td_tree.specs.Symbols.{symbols};
 
+use crate::front::{FirstToken, read_tokens};
 use crate::piece::First;
 use crate::queue::Queue;
 use crate::run::{blank_length, is_ended, is_whole, kind, opens_ascii, run_length};
@@ -16,7 +17,7 @@ use crate::symbol::known_front;
 use crate::token::Mark;
 use std::alloc::AllocError;
 use td_tree::piece::Piece;
-use td_tree::token::{Kind, Sign};
+use td_tree::token::Sign;
 
 /// How far a piece goes in some bytes.
 #[derive(Clone, Copy)]
@@ -129,21 +130,39 @@ pub(crate) struct Place {
     pub(crate) begun: Option<First>,
 }
 
-/// Puts the mark of a piece behind the others, if it is a token.
-#[inline]
-fn put_mark(
+/// Puts the mark of the first piece behind the others, if it is a token, and those of the tokens
+/// behind it that are told at once: where the reading then stands.
+fn read_piece(
     marks: &mut Queue<Mark>,
-    kind: Option<Kind>,
+    bytes: &[u8],
     start: u64,
-    stop: u64,
-) -> Result<(), AllocError>
-    ensures ok { OnOk result (marks.new ≡ marks.old ++ mark_if kind start stop) }
-    ensures err { OnErr result (marks.new ≡ marks.old) }
+    first: First,
+) -> Result<u64, AllocError>
+    requires room { start + length bytes.now < 2 ^ 64 }
+    requires first { IsFirst bytes.now first }
+    ensures read { IfOk result (λ place. AreRead marks.old marks.new start bytes.now place) }
+    ensures further { IfOk result (λ place. start < place) }
+    ensures err { OnErr result (take (length marks.old) marks.new ≡ marks.old) }
 {
-    match kind {
-        Some(kind) => marks.push(Mark { kind, start, stop }),
-        None => Ok(()),
-    }
+    let (text, after) = bytes.split_at(first.length);
+    let Some(kind) = kind(first.piece, text) else {
+        let blanks = blank_length(after);
+        return Ok(start + first.length as u64 + blanks as u64);
+    };
+    let token = FirstToken {
+        length: first.length,
+        kind,
+    };
+    read_tokens(marks, bytes, start, token)
+}
+
+/// The bytes from a place on.
+pub(crate) fn bytes_from(bytes: &[u8], offset: u64, start: u64) -> &[u8]
+    requires from { offset ≤ start }
+    requires within { start - offset ≤ length bytes.now }
+    ensures { result.now ≡ drop (start - offset) bytes.now }
+{
+    bytes.split_at((start - offset) as usize).1
 }
 
 /// Reads on from a place, puts the marks of the tokens that end behind the others, and answers
@@ -166,12 +185,9 @@ pub(crate) fn read_on(
             Ok(first) => first,
             Err(begun) => return Ok(Place { start, begun }),
         };
-        let (text, after) = rest.split_at(first.length);
-        let stop = start + first.length as u64;
-        put_mark(marks, kind(first.piece, text), start, stop)?;
-        let blanks = blank_length(after);
-        start = stop + blanks as u64;
-        rest = after.split_at(blanks).1;
+        let reached = read_piece(marks, rest, start, first)?;
+        rest = bytes_from(rest, start, reached);
+        start = reached;
         begun = None;
     }
 }

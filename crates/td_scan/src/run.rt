@@ -4,15 +4,17 @@ ghost use Rattle.std.specs.Prelude.{Option, Some, drop, false, length, slice_ind
 ghost use Rattle.std.specs.Char.{is_ascii_alphabetic, is_ascii_alphanumeric, is_ascii_digit};
 ghost use Rattle.td_scan.specs.code.Fronts.{end_from};
 ghost use Rattle.td_tree.specs.Pieces.{goes_on, is_blank, kind_after, opens, sign_goes_on};
+ghost use Rattle.td_tree.specs.Pieces.{word_kind};
 ghost use Rattle.td_tree.specs.Statements.{tokens};
 ghost use Rattle.td_tree.specs.Symbols.{symbols};
 
+use td_tree::keyword::Keyword;
 use td_tree::piece::Piece;
 use td_tree::token::{Kind, Sign};
 
 /// Whether the byte is an ASCII letter or `_`.
 #[inline]
-fn begins_word(byte: u8) -> bool
+pub(crate) fn begins_word(byte: u8) -> bool
     ensures { result ≡ (is_ascii_alphabetic byte || (byte == 95)) }
 {
     byte.is_ascii_alphabetic() || byte == b'_'
@@ -42,6 +44,55 @@ pub(crate) fn opens_ascii(byte: u8) -> Piece
     }
 }
 
+/// A reserved word that the bytes may be: one that begins with their first letter and that scripts
+/// have often.
+fn frequent_word(text: &[u8]) -> Option<Keyword> {
+    match text.first()?.to_ascii_uppercase() {
+        b'A' => Some(Keyword::And),
+        b'B' => Some(Keyword::Base),
+        b'C' => Some(Keyword::Char),
+        b'D' => Some(Keyword::Delete),
+        b'E' => Some(Keyword::Extend),
+        b'F' => Some(Keyword::From),
+        b'G' => Some(Keyword::Group),
+        b'I' if text.len() == 6 => Some(Keyword::Insert),
+        b'I' => Some(Keyword::Integer),
+        b'J' => Some(Keyword::Join),
+        b'K' => Some(Keyword::Key),
+        b'M' => Some(Keyword::Minus),
+        b'N' => Some(Keyword::Not),
+        b'O' => Some(Keyword::Or),
+        b'R' => Some(Keyword::Relation),
+        b'S' => Some(Keyword::Summarize),
+        b'T' => Some(Keyword::Tuple),
+        b'U' => Some(Keyword::Update),
+        b'V' => Some(Keyword::Var),
+        b'W' => Some(Keyword::Where),
+        _ => None,
+    }
+}
+
+/// What a word of several bytes is: the reserved words that scripts have often are told first.
+fn long_word_kind(text: &[u8]) -> Kind
+    ensures { result ≡ word_kind text.now }
+{
+    match frequent_word(text) {
+        Some(keyword) if keyword.is_spelled_by(text) => Kind::Reserved(keyword),
+        _ => Kind::of_word(text),
+    }
+}
+
+/// What a word with these bytes is.
+#[inline]
+pub(crate) fn word_kind(text: &[u8]) -> Kind
+    ensures { result ≡ word_kind text.now }
+{
+    if text.len() == 1 {
+        return Kind::Name;
+    }
+    long_word_kind(text)
+}
+
 /// What the piece is, with these bytes; `None` for a blank or a comment, which are no tokens.
 #[inline]
 pub(crate) fn kind(piece: Piece, text: &[u8]) -> Option<Kind>
@@ -50,6 +101,7 @@ pub(crate) fn kind(piece: Piece, text: &[u8]) -> Option<Kind>
     match piece {
         Piece::Blank | Piece::LineComment | Piece::Comment => None,
         Piece::Word if text.len() == 1 => Some(Kind::Name),
+        Piece::Word => Some(long_word_kind(text)),
         Piece::Number => Some(Kind::Number),
         Piece::Sign(sign) => Some(Kind::Sign(sign)),
         _ => piece.kind(text),
@@ -91,12 +143,17 @@ fn is_plain(byte: u8) -> bool
 
 /// How many letters, digits and `_` stand at the front, each in ASCII.
 #[inline]
-fn plain_length(bytes: &[u8]) -> usize
+pub(crate) fn plain_length(bytes: &[u8]) -> usize
     ensures all { (k : ℕ) → k < result → let b = slice_index bytes.now k
         in (is_ascii_alphanumeric b || (b == 95)) ≡ true }
+    ensures stops { result < length bytes.now → let b = slice_index bytes.now result
+        in (is_ascii_alphanumeric b || (b == 95)) ≡ false }
     ensures within { result ≤ length bytes.now }
 {
     for (index, byte) in bytes.iter().enumerate() {
+        if byte.is_ascii_alphabetic() {
+            continue;
+        }
         if !is_plain(*byte) {
             return index;
         }
@@ -106,8 +163,10 @@ fn plain_length(bytes: &[u8]) -> usize
 
 /// How many digits stand at the front, each in ASCII.
 #[inline]
-fn digit_length(bytes: &[u8]) -> usize
+pub(crate) fn digit_length(bytes: &[u8]) -> usize
     ensures all { (k : ℕ) → k < result → is_ascii_digit (slice_index bytes.now k) ≡ true }
+    ensures stops { result < length bytes.now
+        → is_ascii_digit (slice_index bytes.now result) ≡ false }
     ensures within { result ≤ length bytes.now }
 {
     for (index, byte) in bytes.iter().enumerate() {

@@ -1,6 +1,7 @@
 -- What a cutter keeps of the tokens that it found, and how far it has read.
 use Rattle.std.specs.Prelude.{◌≡◌, ◌+◌, ◌-◌, ◌<◌, ◌≤◌, ◌^◌, ◌∷◌, ◌++◌, [], ℕ, Bool, IfSome, List, None}
 use Rattle.std.specs.Prelude.{Option, Some, drop, false, if◌then◌else◌, length, map, option_map, take, true}
+use Rattle.td_scan.specs.declared.front.FirstToken.{FirstToken}
 use Rattle.td_scan.specs.declared.piece.First.{First}
 use Rattle.td_scan.specs.declared.reading.Place.{Place}
 use Rattle.td_scan.specs.declared.token.Mark.{Mark}
@@ -8,9 +9,10 @@ use Rattle.td_scan.specs.code.Fronts.{end_from, first_end}
 use Rattle.td_tree.specs.declared.piece.Piece.{Piece}
 use Rattle.td_tree.specs.declared.piece.Piece.TheVariants as pieces_are
 use Rattle.td_tree.specs.declared.token.Kind.{Kind}
+use Rattle.td_tree.specs.declared.token.Sign.{Sign}
 use Rattle.td_tree.specs.declared.token.Sign.TheVariants as signs
 use Rattle.td_tree.specs.Division.{up_to}
-use Rattle.td_tree.specs.Pieces.{kind_of}
+use Rattle.td_tree.specs.Pieces.{kind_of, opens, sign_goes_on}
 use Rattle.td_tree.specs.Statements.{PlacedToken, ends, is_end, tokens}
 use Rattle.td_tree.specs.Symbols.{Symbol, symbols}
 
@@ -94,6 +96,30 @@ pub record IsFirst (bytes : List ℕ) (f : First) : Type 0 where
   pub some : 0 < f.length
   pub within : f.length ≤ length bytes
   pub same : (later : List ℕ) → first_end (symbols (bytes ++ later)) ≡ (f.length, f.piece)
+
+-- the first piece of the bytes is this token, whatever follows them
+pub record IsToken (bytes : List ℕ) (t : FirstToken) : Type 0 where
+  pub some : 0 < t.length
+  pub within : t.length ≤ length bytes
+  pub same : (at : ℕ) (later : List ℕ)
+      → marks_of at (bytes ++ later)
+      ≡ mark_if (Some t.kind) at (at + t.length)
+      ++ marks_of (at + t.length) (drop t.length bytes ++ later)
+
+-- the sign that the byte is goes on with no symbol
+pub record IsWholeSign (byte : ℕ) (sign : Sign) : Type 0 where
+  pub ascii : byte < 128
+  pub is : opens (Some byte) ≡ pieces_are.Sign sign
+  pub ends : (c : Option ℕ) → sign_goes_on sign c ≡ None
+
+-- the marks go on with those of the tokens up to a place, whatever follows the bytes
+pub record AreRead (old new : List Mark) (at : ℕ) (bytes : List ℕ) (to : ℕ) : Type 0 where
+  pub from : at ≤ to
+  pub within : to - at ≤ length bytes
+  pub kept : take (length old) new ≡ old
+  pub past : (low : ℕ) → end_of_marks low old ≤ at → end_of_marks low new ≤ to
+  pub same : (later : List ℕ)
+      → old ++ marks_of at (bytes ++ later) ≡ new ++ marks_of to (drop (to - at) bytes ++ later)
 
 -- the marks go on with those of the tokens up to a place, whatever follows the bytes; no more than
 -- three bytes are left to be read
