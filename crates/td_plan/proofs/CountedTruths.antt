@@ -23,7 +23,7 @@ kept_count {X} q (x ∷ xs) = by_test (q x) (kept_count q xs)
     by_test false rest = rest
 
 -- what is asked of a relation is asked of the number of its tuples
-measured_number : (op : Measure) (r : Relation) → measure_value op (relation_value r) ≡ number_measured op (length r.body)
+pub measured_number : (op : Measure) (r : Relation) → measure_value op (relation_value r) ≡ number_measured op (length r.body)
 measured_number measures.Count r = relation_unpacked r (λ r. of_number (pos (length r.body)))
 measured_number measures.IsEmpty r = relation_unpacked r (λ r. of_truth (nat_eq (length r.body) 0))
 

@@ -19,6 +19,8 @@ pub mod Memberships
 pub mod MemoLaws
 pub mod NamedSlots
 pub mod NarrowedOperands
+pub mod PartnerLaws
+pub mod PartnerValues
 pub mod PlacedLaws
 pub mod Places
 pub mod PlannedAnswers

@@ -3,6 +3,7 @@ pub mod Evaluators
 pub mod Hands
 pub mod Memberships
 pub mod Memos
+pub mod Partners
 pub mod PlanViews
 pub mod PlannedParts
 pub mod Planners

@@ -11,6 +11,7 @@ mod loops;
 mod memberships;
 pub(crate) mod memo;
 mod operators;
+mod partners;
 mod quick;
 mod quick_bound;
 mod quick_numbers;

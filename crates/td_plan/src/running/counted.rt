@@ -18,7 +18,7 @@ fn true_count(truths: &[bool]) -> usize
 }
 
 /// The value of COUNT or IS_EMPTY of a relation of so many tuples.
-fn number_measured(op: Measure, count: usize) -> Result<Value, Fault>
+pub(crate) fn number_measured(op: Measure, count: usize) -> Result<Value, Fault>
     ensures { Answers (λ v. v) result (number_measured op count) }
 {
     match op {

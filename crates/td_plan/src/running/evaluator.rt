@@ -1,17 +1,18 @@
 //! What values steps. Each function takes what values the parts of a step as a parameter, so that
 //! it is proved by itself.
-ghost use Rattle.std.specs.Prelude.{◌≡◌};
+ghost use Rattle.std.specs.Prelude.{◌≡◌, IfOk, IfSome};
 ghost use Rattle.td_eval.specs.Worlds.{World};
 ghost use Rattle.td_plan.specs.code.Evaluators.{IsReadyAt, KeepsFor, Runs, RunsBelow, SoundFor};
 ghost use Rattle.td_plan.specs.code.Evaluators.{SoundForAll, height_over, height_over_all};
+ghost use Rattle.td_plan.specs.code.Partners.{HasTuples, IsValueBeside};
 ghost use Rattle.td_plan.specs.code.Runs.{step_values};
-ghost use Rattle.td_plan.specs.code.StepViews.{step_view};
+ghost use Rattle.td_plan.specs.code.StepViews.{dyadic_view, step_view};
 ghost use Rattle.td_tree.specs.Outcomes.{Answers, gathered};
 
-use crate::plan::step::Step;
+use crate::plan::step::{Dyadic, Step};
 use crate::running::hand::Hand;
 use crate::running::memo::Memo;
-use std::alloc::Global;
+use std::alloc::{AllocError, Global};
 use td_tree::fault::Fault;
 use td_tree::gathering::Gathering;
 use td_value::value::Value;
@@ -20,6 +21,21 @@ use td_value::value::Value;
 pub(crate) trait InWorld {
     /// The world in which they have their values.
     ghost world: { Self → World };
+
+    /// The value of an operator between a value and what a step gives, where it is found by a key
+    /// and the step is not evaluated.
+    fn value_by_key(
+        &self,
+        left: &Value,
+        op: Dyadic,
+        right: &Step,
+    ) -> Result<Option<Value>, AllocError>
+        ensures { IfOk result (λ found. IfSome found (IsValueBeside (world self.now) left.now
+            (dyadic_view op) (step_view right.now))) };
+
+    /// How many tuples a step gives, where that is known and the step is not evaluated.
+    fn tuple_count(&self, step: &Step) -> Option<usize>
+        ensures { IfSome result (HasTuples (world self.now) (step_view step.now)) };
 }
 
 /// What a plan is run in, and what values the parts of a step there.

@@ -93,7 +93,7 @@ fn has_other_relation<B: Body>(env: &Env<'_, B>, name: &Name) -> bool
 }
 
 /// The base relvar of the name, where no other relation stands for it.
-fn base_in<'a, B: Body>(env: &Env<'a, B>, name: &Name) -> Option<&'a BaseEntry<B>>
+pub(crate) fn base_in<'a, B: Body>(env: &Env<'a, B>, name: &Name) -> Option<&'a BaseEntry<B>>
     ensures entry { IfSome result (λ e. IsEntry B.relation B.keys e.now) }
     ensures value { IfSome result (λ e. known_outcome ((world_in env.now).relvar name.now)
         ≡ of_relation (B.relation e.now.body)) }

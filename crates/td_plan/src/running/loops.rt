@@ -19,7 +19,7 @@ ghost use Rattle.td_tree.specs.code.TreeViews.{attributes_view};
 ghost use Rattle.td_types.specs.code.Views.{pairs_view};
 
 use crate::plan::step::{Dyadic, Step};
-use crate::running::counted::truths_measured;
+use crate::running::counted::{number_measured, truths_measured};
 use crate::running::evaluator::{Evaluator, InWorld};
 use crate::running::extended::set_by;
 use crate::running::hand::{Hand, entered};
@@ -48,7 +48,8 @@ impl<A: InWorld, F> Evaluator<'_, A, F>
 where
     F: Fn(&A, &mut Memo, &Hand<'_, '_>, &Step) -> Result<Value, Fault>,
 {
-    /// The value of an operator between two operands.
+    /// The value of an operator between two operands. The second is not evaluated where the value
+    /// is found by a key of it.
     #[inline(never)]
     pub(crate) fn dyadic(
         &self,
@@ -67,6 +68,11 @@ where
             (dyadic (step_view left.now) (dyadic_view op) (step_view right.now)) }
     {
         let first = self.run(memo, hand, left);
+        if let Ok(value) = &first {
+            if let Some(found) = self.around.value_by_key(value, op, right)? {
+                return Ok(found);
+            }
+        }
         let second = self.run(memo, hand, right);
         value_of_dyadic(self.alloc, op, first, second)
     }
@@ -150,7 +156,7 @@ where
     }
 
     /// The value of COUNT or IS_EMPTY of an operand. The tuples of a restriction are only
-    /// counted.
+    /// counted, and those of a relvar are counted already.
     #[inline(never)]
     pub(crate) fn measure(
         &self,
@@ -168,7 +174,10 @@ where
             Step::Restriction(operand, slot, condition, _) => {
                 self.restriction_measured(memo, hand, op, operand, *slot, condition)
             }
-            _ => value_of_measure(op, self.run(memo, hand, operand)),
+            _ => match self.around.tuple_count(operand) {
+                Some(count) => number_measured(op, count),
+                None => value_of_measure(op, self.run(memo, hand, operand)),
+            },
         }
     }
 

@@ -3,9 +3,12 @@ ghost use Rattle.td_eval.specs.Worlds.{known_outcome};
 ghost use Rattle.td_plan.specs.code.Hands.{AreSurroundings, world_around};
 ghost use Rattle.td_tree.specs.Outcomes.{Answers};
 
+use crate::plan::step::{Dyadic, Step};
 use crate::running::evaluator::InWorld;
+use crate::running::look_up::base_in;
 use crate::running::memo::again;
-use std::alloc::Global;
+use crate::running::partners::value_by_key;
+use std::alloc::{AllocError, Global};
 use td_body::body::Body;
 use td_eval::env::Env;
 use td_eval::known::relvar_in;
@@ -30,6 +33,22 @@ pub(crate) struct Surroundings<'e, 'a, 'v, B: Body> {
 
 impl<B: Body> InWorld for Surroundings<'_, '_, '_, B> {
     ghost world = { world_around };
+
+    fn value_by_key(
+        &self,
+        left: &Value,
+        op: Dyadic,
+        right: &Step,
+    ) -> Result<Option<Value>, AllocError> {
+        value_by_key(self, left, op, right)
+    }
+
+    fn tuple_count(&self, step: &Step) -> Option<usize> {
+        match step {
+            Step::Relvar(name) => Some(base_in(self.env, name)?.body.len()),
+            _ => None,
+        }
+    }
 }
 
 /// The value of the relvar of a name.
