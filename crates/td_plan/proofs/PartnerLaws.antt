@@ -1,6 +1,6 @@
 -- Partners of tuples, and what is asked of tuples that have them.
 use Rattle.std.proofs.Common.{◌≡◌, ◌∙◌, ap, arith, sym, refl, subst, ℕ, suc, Bool, true, false, List, [], ◌∷◌, None, filter, length, map, true≢false}
-use Rattle.std.specs.Prelude.{◌&&◌, ◌||◌, ◌==◌, not, if◌then◌else◌, is_some, IsTrue}
+use Rattle.std.specs.Prelude.{◌&&◌, ◌||◌, ◌==◌, not, if◌then◌else◌, is_some}
 use Rattle.std.specs.List.{All, list_all, list_any}
 use Rattle.std.specs.Ordering.{eq_by_cmp}
 use Rattle.std.proofs.lemmas.Bool.{ne_eqb}
@@ -9,7 +9,7 @@ use Rattle.std.proofs.lemmas.Slice.Eq.{bytes_eq-Decides}
 use Rattle.td_algebra.proofs.Lists.{contains_any}
 use Rattle.td_algebra.proofs.Members.{first_true, second_true}
 use Rattle.td_algebra.proofs.OnNames.{kept_same}
-use Rattle.td_algebra.proofs.Projections.{IsTupleOf-projected, projection_members}
+use Rattle.td_algebra.proofs.Projections.{projection_members}
 use Rattle.td_algebra.proofs.Relations.{member_headed}
 use Rattle.td_algebra.specs.Operators.{projected_relation}
 use Rattle.td_eval.specs.OperatorValues.{of_relation, of_truth}
@@ -17,14 +17,14 @@ use Rattle.td_plan.specs.declared.running.partners.Asked.{Asked}
 use Rattle.td_plan.specs.declared.running.partners.Asked.TheVariants as asked
 use Rattle.td_plan.specs.code.Partners.{IsPartOn, asked_value, has_partner}
 use Rattle.td_types.proofs.HeadingLaws.{has_attribute-names, type_at-projection}
-use Rattle.td_types.specs.Headings.{has_attribute, has_attributes, has_name, projection}
+use Rattle.td_types.specs.Headings.{has_attribute, has_name, projection}
 use Rattle.td_types.specs.Types.{Heading, attribute_names, same_name, type_at}
 use Rattle.td_value.proofs.Agreement.{agreement_of_values}
 use Rattle.td_value.proofs.Members.{contained, found}
 use Rattle.td_value.specs.Agreement.{agree_on}
 use Rattle.td_value.specs.code.Views.{relation_view}
 use Rattle.td_value.specs.Sets.{has}
-use Rattle.td_value.specs.Values.{IsRelation, IsTupleOf, Relation, Tuple, heading_of, projected_tuple, tuple_cmp}
+use Rattle.td_value.specs.Values.{IsRelation, IsTupleOf, Relation, Tuple, projected_tuple, tuple_cmp}
 
 -- ---- names
 

@@ -25,7 +25,7 @@ use Rattle.td_types.specs.Headings.{agree, are_distinct, common_heading, common_
 use Rattle.td_types.specs.Types.{Heading, attribute_names}
 use Rattle.td_value.proofs.Packed.{pack_unpack_rows}
 use Rattle.td_value.specs.Sets.{has}
-use Rattle.td_value.specs.Values.{IsRelation, IsTupleOf, Relation, Tuple, Val, boolean, char, integer, relation, relation_value, tuple, tuple_cmp, user}
+use Rattle.td_value.specs.Values.{IsRelation, IsTupleOf, Relation, Val, boolean, char, integer, relation, relation_value, tuple, tuple_cmp, user}
 
 -- ---- operands
 

@@ -5,7 +5,6 @@ use Rattle.td_plan.specs.code.Hands.{world_around}
 use Rattle.td_plan.specs.code.Partners.{value_beside}
 use Rattle.td_plan.specs.code.StepViews.{dyadic_view, step_view}
 use Rattle.td_tree.specs.Trees.{only, project}
-use Rattle.td_value.specs.Values.{relation_value}
 use Rattle.td_plan.proofs.running.partners.value_by_key.Goals as goal
 
 pub returns-in-Relvar : goal.returns-in-Relvar
