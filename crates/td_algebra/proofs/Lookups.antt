@@ -162,11 +162,11 @@ module _ (l : RowsByParts) (places : List ℕ) (rows : List Tuple) (next : List 
       (row_then (places, rows) place row within is
       ∙ ap (λ o. row ∷ like_row_at (places, rows) o) (sym (got_is row is)))
 
--- rows that are kept are not more than all
-pub kept_fewer : (p : Tuple → Bool) (ts : List Tuple) → length (filter p ts) ≤ length ts
+-- what is kept is not more than all
+pub kept_fewer : {X : Type 0} (p : X → Bool) (xs : List X) → length (filter p xs) ≤ length xs
 kept_fewer p [] = omega arith
-kept_fewer p (t ∷ ts) = by_test (p t) (kept_fewer p ts)
+kept_fewer p (x ∷ xs) = by_test (p x) (kept_fewer p xs)
   where
-    by_test : (b : Bool) → length (filter p ts) ≤ length ts → length (if b then t ∷ filter p ts else filter p ts) ≤ length (t ∷ ts)
+    by_test : (b : Bool) → length (filter p xs) ≤ length xs → length (if b then x ∷ filter p xs else filter p xs) ≤ length (x ∷ xs)
     by_test true later = omega (arith, later)
     by_test false later = omega (arith, later)

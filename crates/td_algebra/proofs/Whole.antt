@@ -11,20 +11,13 @@ use Rattle.td_value.specs.ValueOrder.{tuple_order_same, tuple_order_total}
 use Rattle.td_value.specs.Values.{IsAscendingBody, IsTupleOf, Relation, Tuple, heading_of, projected_tuple, tuple_cmp, type_of}
 use Rattle.td_value.specs.code.Views.{relation_view}
 use Rattle.td_value.proofs.SetLaws.{is_set_of}
+use Rattle.td_algebra.proofs.Lookups.{kept_fewer}
 use Rattle.td_algebra.specs.Operators.{projected_relation}
-
-no_more : {X : Type 0} (p : X → Bool) (xs : List X) → length (filter p xs) ≤ length xs
-no_more p [] = omega arith
-no_more p (x ∷ xs) = by_test (p x) (no_more p xs)
-  where
-    by_test : (b : Bool) → length (filter p xs) ≤ length xs → length (if b then x ∷ filter p xs else filter p xs) ≤ length (x ∷ xs)
-    by_test true h = omega arith
-    by_test false h = omega arith
 
 -- of a list with as many items as are kept, all are
 all_stay : {X : Type 0} (p : X → Bool) (xs : List X) → length (filter p xs) ≡ length xs → filter p xs ≡ xs
 all_stay p [] e = refl
-all_stay p (x ∷ xs) e = by_test (p x) (all_stay p xs) (no_more p xs) e
+all_stay p (x ∷ xs) e = by_test (p x) (all_stay p xs) (kept_fewer p xs) e
   where
     by_test : (b : Bool) → (length (filter p xs) ≡ length xs → filter p xs ≡ xs) → length (filter p xs) ≤ length xs
         → length (if b then x ∷ filter p xs else filter p xs) ≡ length (x ∷ xs) → (if b then x ∷ filter p xs else filter p xs) ≡ x ∷ xs

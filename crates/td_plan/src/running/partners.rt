@@ -22,6 +22,7 @@ ghost use Rattle.td_value.specs.Values.{relation_value, tuple_cmp};
 
 use crate::plan::step::{Dyadic, Monadic, Step};
 use crate::running::look_up::base_in;
+use crate::running::quick_rows::negations;
 use crate::running::surroundings::Surroundings;
 use std::alloc::{AllocError, Global};
 use td_algebra::restriction::restrict;
@@ -93,17 +94,6 @@ fn are_all(truths: &[bool]) -> bool
     ensures { result ≡ list_all (λ truth. truth) truths.now }
 {
     truths.iter().all(|truth| *truth)
-}
-
-/// The other truth value in the place of each.
-fn negations(alloc: Global, truths: &[bool]) -> Result<Vec<bool>, AllocError>
-    ensures { IfOk result (λ others. others.items ≡ map not truths.now) }
-{
-    let mut others = Vec::with_capacity(alloc, truths.len())?;
-    for truth in truths {
-        others.push(!*truth)?;
-    }
-    Ok(others)
 }
 
 /// What is asked of the tuples of the relation, each of which has a partner where its truth value

@@ -1,12 +1,10 @@
 //! Truth values of a condition in all tuples of a relation, found without causes. Where one is not
 //! found so, there is nothing.
-ghost use Rattle.std.specs.Prelude.{List};
-ghost use Rattle.td_eval.specs.OperatorValues.{comparison_value, operator_value, prefix_value};
-ghost use Rattle.td_plan.specs.code.Quick.{AreInRows, AreOfBoth, AreQuick};
+ghost use Rattle.std.specs.Prelude.{◌≡◌, IfOk, map, not};
+ghost use Rattle.td_eval.specs.OperatorValues.{comparison_value, operator_value};
+ghost use Rattle.td_plan.specs.code.Quick.{AreOfBoth};
 ghost use Rattle.td_plan.specs.code.QuickInside.{AreComparedIn, FoundIn};
-ghost use Rattle.td_tree.specs.Outcomes.{Outcome, with_value};
-ghost use Rattle.td_tree.specs.declared.operator.Prefix.TheVariants as prefixes;
-ghost use Rattle.td_value.specs.Values.{Tuple, Val, boolean, integer};
+ghost use Rattle.td_value.specs.Values.{boolean, integer};
 
 use crate::plan::step::{Dyadic, Monadic, Step};
 use crate::running::hand::{Batch, Found, hand_inside};
@@ -14,7 +12,7 @@ use crate::running::memberships::memberships;
 use crate::running::quick::{numbers_compared, quick_truth, truths_operated};
 use crate::running::quick_bound::quick_behind;
 use crate::running::quick_numbers::quick_numbers;
-use std::alloc::Global;
+use std::alloc::{AllocError, Global};
 use td_tree::operator::{Comparison, Operator, Prefix};
 use td_value::tuple::Tuple;
 
@@ -68,15 +66,14 @@ fn truths_of_both(alloc: Global, op: Operator, left: &[bool], right: &[bool]) ->
 }
 
 /// The negations of truth values.
-fn negations(alloc: Global, truths: &[bool]) -> Found<bool>
-    ensures { (f : Tuple → Outcome Val) (ts : List Tuple) → AreInRows boolean f ts truths.now
-        → AreQuick boolean (λ t. with_value (f t) (prefix_value prefixes.Not)) ts result }
+pub(crate) fn negations(alloc: Global, truths: &[bool]) -> Result<Vec<bool>, AllocError>
+    ensures { IfOk result (λ negations. negations.items ≡ map not truths.now) }
 {
-    let mut negations = Vec::with_capacity(alloc, truths.len()).ok()?;
+    let mut negations = Vec::with_capacity(alloc, truths.len())?;
     for truth in truths {
-        negations.push(!*truth).ok()?;
+        negations.push(!*truth)?;
     }
-    Some(negations)
+    Ok(negations)
 }
 
 /// The truth values of a comparison of steps that are numbers in all tuples.
@@ -108,7 +105,7 @@ fn truths_in_all(batch: &Batch<'_>, condition: &Step) -> Found<bool>
             Monadic::Prefix(op) => match op {
                 Prefix::Not => {
                     let truths = truths_in_all(batch, operand)?;
-                    negations(batch.alloc, &truths)
+                    negations(batch.alloc, &truths).ok()
                 }
                 _ => None,
             },

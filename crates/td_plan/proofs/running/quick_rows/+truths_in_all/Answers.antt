@@ -1,6 +1,9 @@
 use Rattle.std.proofs.Common.{◌∙◌, Some, ap, subst, sym}
-use Rattle.td_plan.proofs.QuickRows.{of_bound, of_plan}
+use Rattle.std.proofs.lemmas.Result.{IfOk-weaker}
+use Rattle.td_plan.proofs.Granted.{quick_granted}
+use Rattle.td_plan.proofs.QuickRows.{negated, of_bound, of_plan}
 use Rattle.td_plan.proofs.StepParts.{bound_apart, bound_made, dyadic_made}
+use Rattle.td_eval.specs.OperatorValues.{prefix_value}
 use Rattle.td_plan.specs.declared.plan.step.Dyadic.TheVariants as dyadics
 use Rattle.td_plan.specs.declared.plan.step.Monadic.TheVariants as monadics
 use Rattle.td_plan.specs.Plans as plans
@@ -8,6 +11,7 @@ use Rattle.td_plan.specs.code.Memos.{IsPart, IsSound}
 use Rattle.td_plan.specs.code.Quick.{AreInRows}
 use Rattle.td_plan.specs.code.QuickInside.{value_inside}
 use Rattle.td_plan.specs.code.StepViews.{monadic_view, step_view, steps_view}
+use Rattle.td_tree.specs.Outcomes.{with_value}
 use Rattle.td_tree.specs.declared.operator.Prefix.TheVariants as prefixes
 use Rattle.td_value.specs.Values.{boolean}
 use Rattle.td_plan.proofs.running.quick_rows.+truths_in_all.Goals as goal
@@ -46,10 +50,12 @@ returns-in_ok-truths-in-Not t c = λ ps w sound m.
     let rows = c.args.batch.now.rows.now in
     let inner : IsSound ps i.operand.value = subst (IsSound ps) i.is sound in
     let f = value_inside w c.args.batch.now.inside.now operand in
-    of_plan boolean w c.args.batch.now.inside.now c.args.condition.now (plans.monadic (plans.prefix prefixes.Not) (step_view operand)) rows c.negations.result
+    of_plan boolean w c.args.batch.now.inside.now c.args.condition.now (plans.monadic (plans.prefix prefixes.Not) (step_view operand)) rows c.ok.result
     (ap step_view i.is ∙ (λ j. plans.monadic (monadic_view (op j)) (step_view (sym c.deref-in-Not.ensures j))))
-    (c.negations.ensures f rows
+    (quick_granted boolean (λ t. with_value (f t) (prefix_value prefixes.Not)) rows c.negations.result c.ok.result c.ok.ensures.value
+    (IfOk-weaker c.negations.result _ _ (λ others is. negated f rows c.deref-in-Not-2.result.now others.items is
     (subst (AreInRows boolean f rows) (sym c.deref-in-Not-2.ensures.value) (c.in_ok-truths-in-Not.ensures ps w (subst (IsSound ps) (sym c.deref-in-Not.ensures) inner) m)))
+    c.negations.ensures))
 
 pub returns-in_ok-inside-in-Bound : goal.returns-in_ok-inside-in-Bound
 returns-in_ok-inside-in-Bound t c = λ ps w sound m.
