@@ -1,4 +1,5 @@
-"""The engine's grammar as productions without trees, read from its definition in td_tree/specs.
+"""The engine's grammar as productions without trees, read from its definition in
+td_tree/specs/model.
 
 A constructor there says which lexemes spell a tree, where its premises say so of the tree's parts.
 As a production it has a symbol for each lexeme and for each premise. A constructor that speaks of
@@ -13,7 +14,7 @@ of a list), and perhaps the mark.
 import itertools
 import re
 
-from engine import GRAMMAR, TREE, found
+from engine import GRAMMAR, MODEL, TREE, found
 
 START = ("StatementSpelling", None)
 OTHERWISE = "begins with no number"
@@ -62,7 +63,7 @@ class Definition:
     def __init__(self):
         self.constructors, self.equations, self.records = {}, {}, {}
         for file in GRAMMAR:
-            text = (TREE / "specs" / f"{file}.antt").read_text(encoding="utf-8")
+            text = (TREE / MODEL / f"{file}.antt").read_text(encoding="utf-8")
             self.records.update(RECORD.findall(text))
             self.read(text.splitlines())
         self.words = dict(found(TREE / "src" / "keyword.rt", r'Keyword::(\w+) => "([A-Z_]+)"'))

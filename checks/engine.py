@@ -5,6 +5,7 @@ from pathlib import Path
 
 TOP = Path(__file__).resolve().parent.parent
 TREE = TOP / "crates" / "td_tree"
+MODEL = "specs/model"
 GRAMMAR = ("Lists", "Grammar", "StatementGrammar")
 # The tables of words that one constructor of the grammar stands for.
 WORDS = "operator_words|comparison_word|measure_word|aggregate_word"
@@ -35,6 +36,6 @@ def productions():
     those of the words for which some stand."""
     names = set()
     for file in GRAMMAR:
-        names.update(found(TREE / "specs" / f"{file}.antt", r"^ {2,4}([a-z_]+) : "))
-    names.update(found(TREE / "specs" / "Grammar.antt", rf"^(?:{WORDS}) \w+\.(\w+) ="))
+        names.update(found(TREE / MODEL / f"{file}.antt", r"^ {2,4}([a-z_]+) : "))
+    names.update(found(TREE / MODEL / "Grammar.antt", rf"^(?:{WORDS}) \w+\.(\w+) ="))
     return names

@@ -5,6 +5,7 @@ clauses stand four blanks deeper than its head, and its body opens behind them. 
 as, and what equality, order and hash are of a type, are definitions in a block of the trait or the
 type.
 """
+import itertools
 import re
 from dataclasses import dataclass
 from pathlib import Path
@@ -87,8 +88,9 @@ def comment(lines, mark):
 
 
 def head_comment(lines):
-    """The comment with which the file begins."""
-    return comment([line for line in lines if line.startswith("//!")], "//!")
+    """The first paragraph of the comment with which the file begins."""
+    head = itertools.takewhile(lambda line: line.startswith("//! "), lines)
+    return comment(list(head), "//!")
 
 
 def sentences_above(lines, at):

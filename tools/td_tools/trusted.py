@@ -6,52 +6,36 @@ from dataclasses import dataclass
 from . import contracts, specs
 from .command import WRONG_WORDS, Failure
 
-# The modules of each chapter, in the order in which they are to be read.
+# The modules of each chapter, all of them in specs/model/, in the order in which they are to be read.
 CHAPTERS = {
     "Values and relations": [
-        "td_value.specs.Values", "td_value.specs.Sets", "td_value.specs.Agreement",
-        "td_value.specs.KnownValues", "td_value.specs.code.Views", "td_algebra.specs.Columns",
-        "td_algebra.specs.Operators", "td_group.specs.Groups", "td_group.specs.Nesting",
-        "td_group.specs.Aggregates", "td_group.specs.Closure", "td_body.specs.Bodies",
+        "td_value: Values Sets Agreement KnownValues", "td_algebra: Operators",
+        "td_group: Groups Nesting Aggregates Closure", "td_body: Bodies",
     ],
-    "Types": [
-        "td_types.specs.Types", "td_types.specs.TypeOrder", "td_types.specs.Headings",
-        "td_types.specs.NamedTypes", "td_types.specs.TypeLists", "td_types.specs.Texts",
-    ],
+    "Types": ["td_types: Types Headings NamedTypes TypeLists Texts"],
     "Trees and the grammar": [
-        "td_tree.specs.Trees", "td_tree.specs.Heights", "td_tree.specs.Lexemes",
-        "td_tree.specs.Signs", "td_tree.specs.Keywords", "td_tree.specs.Lists",
-        "td_tree.specs.Numbers", "td_tree.specs.Grammar", "td_tree.specs.StatementGrammar",
-        "td_tree.specs.Prints",
+        "td_tree: Trees Heights Lexemes Signs Keywords Lists Numbers Grammar StatementGrammar Prints",
     ],
     "Tokens": [
-        "td_tree.specs.Symbols", "td_tree.specs.Names", "td_tree.specs.Division",
-        "td_tree.specs.Pieces", "td_tree.specs.TextTokens", "td_tree.specs.Statements",
-        "td_tree.specs.TokenLexemes", "td_parse.specs.code.Parsing",
+        "td_tree: Symbols Names Division Pieces TextTokens Statements TokenLexemes",
+        "td_parse: Meanings",
     ],
     "The static rules": [
-        "td_tree.specs.Causes", "td_tree.specs.Outcomes", "td_check.specs.Scopes",
-        "td_check.specs.OperatorTypes", "td_check.specs.StaticTypes", "td_check.specs.Mentions",
-        "td_check.specs.StatementTypes",
+        "td_tree: Causes Outcomes",
+        "td_check: Scopes OperatorTypes StaticTypes Mentions StatementTypes",
     ],
     "Evaluation": [
-        "td_eval.specs.Worlds", "td_eval.specs.AggregateValues", "td_eval.specs.OperatorValues",
-        "td_eval.specs.TreeValues", "td_eval.specs.DatabaseWorlds",
+        "td_eval: Worlds AggregateValues OperatorValues TreeValues DatabaseWorlds",
     ],
     "Statements, transactions and runs": [
-        "td_catalog.specs.Database", "td_catalog.specs.Mentioned", "td_engine.specs.Refusals",
-        "td_engine.specs.Assignments", "td_engine.specs.Checks", "td_engine.specs.Machine",
+        "td_catalog: Database Mentioned", "td_engine: Refusals Assignments Checks Machine",
     ],
-    "The dump": ["td_value.specs.Literal", "td_catalog.specs.Dumps"],
+    "The dump": ["td_value: Literal", "td_catalog: Dumps"],
     "Legality": [
-        "td_tree.specs.WrittenTrees", "td_types.specs.TypeListLaws",
-        "td_catalog.specs.WrittenDefinitions", "td_catalog.specs.TypedDatabases",
-        "td_eval.specs.LiteralValues", "td_engine.specs.Legality", "td_engine.specs.LegalityLaws",
+        "td_tree: WrittenTrees", "td_catalog: WrittenDefinitions TypedDatabases",
+        "td_eval: MetConstraints", "td_engine: Legality",
     ],
-    "What a run promises": [
-        "td_engine.specs.Told", "td_engine.specs.Faults", "td_engine.specs.Scripts",
-        "td_engine.specs.Standing",
-    ],
+    "What a run promises": ["td_engine: Told Faults Scripts Standing"],
 }
 CODE, ELSEWHERE = "Types of the code", "Elsewhere"
 GHOST_USE = re.compile(r"^ghost use .*;$", re.MULTILINE)
@@ -128,6 +112,13 @@ def traits_of(crate, path, lines):
             yield imported[1] or crate, imported[2].replace("::", "/"), f"pub trait {found[1]}\\b"
 
 
+def modules_of(chapter):
+    """The modules of a chapter, in their order."""
+    for line in CHAPTERS[chapter]:
+        crate, _, names = line.partition(": ")
+        yield from (f"{crate}.specs.model.{name}" for name in names.split())
+
+
 def part(module, definitions):
     return Part(module.replace(".", "/") + ".antt", [one.lines for one in definitions])
 
@@ -160,8 +151,9 @@ class TrustedText:
         """The chapters, each with its parts; what none of them has comes last."""
         modules = self.reached.by_module()
         parts = {CODE: list(self.declared())}
-        for chapter, names in CHAPTERS.items():
-            parts[chapter] = [part(name, modules.pop(name)) for name in names if name in modules]
+        for chapter in CHAPTERS:
+            names = [name for name in modules_of(chapter) if name in modules]
+            parts[chapter] = [part(name, modules.pop(name)) for name in names]
         parts[ELSEWHERE] = [part(name, modules[name]) for name in sorted(modules)]
         return {chapter: every for chapter, every in parts.items() if every}
 

@@ -10,7 +10,7 @@ use Rattle.clap.specs.Simple.{App, Shape, argument_words, built, entered, names_
 use Rattle.clap.specs.Walk.{Held, Names, Outcome, Row, Rule, Step, Text, Waiting, Walk, after_flag, after_step, answers_to, arg_by_index, finished, idle, long_or_other, next, nothing_held, option, plain_word, positional, settled, short_or_plain, subcommand, subcommand_met, subcommand_or_other, to_positional, trailing, value, walk, walk_from, walked, walked_from, word_met}
 use Rattle.clap.specs.Walk as walks
 use Rattle.clap.specs.Words.{subcommand_of}
-use Rattle.td.specs.CommandLine.{IsOfMode, td_app}
+use Rattle.td.specs.model.CommandLine.{IsOfMode, td_app}
 use Rattle.td.specs.declared.line.Mode.TheVariants.{Run, Dump}
 
 -- ---- a list of kinds that is empty

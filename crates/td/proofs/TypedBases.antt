@@ -1,10 +1,10 @@
 -- The base relvars of a typed database.
 use Rattle.std.proofs.Common.{◌≡◌, ℕ, Bool, true, false, List, [], ◌∷◌, Some, refl, subst}
 use Rattle.std.specs.List.{AllByRecursion}
-use Rattle.td_catalog.specs.Database.{BaseRelvar, Database, base_among, base_named}
-use Rattle.td_catalog.specs.TypedDatabases.{IsTyped, IsTypedBase}
-use Rattle.td_types.specs.TypeLists.{DeclaredType}
-use Rattle.td_types.specs.Types.{same_name}
+use Rattle.td_catalog.specs.model.Database.{BaseRelvar, Database, base_among, base_named}
+use Rattle.td_catalog.specs.model.TypedDatabases.{IsTyped, IsTypedBase}
+use Rattle.td_types.specs.model.TypeLists.{DeclaredType}
+use Rattle.td_types.specs.model.Types.{same_name}
 
 some_is : (b c : BaseRelvar) → Some b ≡ Some c → b ≡ c
 some_is b c e = cc

@@ -2,22 +2,22 @@
 use Rattle.std.proofs.Common.{◌≡◌, ◌∙◌, ℕ, Bool, List, [], Option, Some, None, Result, Ok, Err, ap, refl, sym, subst, append-nil, arith, true≢false}
 use Rattle.std.specs.Prelude.{IfErr, IfOk, IsFalse, IsOk, IsTrue, take, nat_lt, if◌then◌else◌, ◌&&◌, ◌++◌, true, false}
 use Rattle.std.specs.Io.KnownBytes.{Appends}
-use Rattle.td.specs.Sessions.{HasAnswered, HasBegun, HasBegunCut, HasBegunTo, HasDumpedCut, IsUnderWay, OfSession, status_of}
+use Rattle.td.specs.model.Sessions.{HasAnswered, HasBegun, HasBegunCut, HasBegunTo, HasDumpedCut, IsUnderWay, OfSession, status_of}
 use Rattle.td.specs.declared.line.Mode.{Mode}
 use Rattle.td.specs.declared.line.Mode.TheVariants.{Dump, Run}
-use Rattle.td_catalog.specs.Dumps.{dump_text}
+use Rattle.td_catalog.specs.model.Dumps.{dump_text}
 use Rattle.td_engine.proofs.law_lemmas.Runs.{runs_front}
 use Rattle.td_engine.proofs.code_lemmas.Turning.{limit_map, memory_map, ok_map, read_map, write_map}
-use Rattle.td_engine.specs.Faults.{IfMemory, IfNotMemory, IfRead, IfReadLimit, IfWrite}
-use Rattle.td_engine.specs.Machine.{State, progress_at_first}
-use Rattle.td_engine.specs.Scripts.{IsFront, IsRead, OfBroken, OfFront, OfScript, OfTooMuch, script_limit}
-use Rattle.td_engine.specs.Legality.{IsLegalState}
-use Rattle.td_engine.specs.Standing.{HasRun, HasRunCut, IsLeft, IsOngoing, run_of, standing}
-use Rattle.td_engine.specs.Told.{AppendsIfTold}
+use Rattle.td_engine.specs.model.Faults.{IfMemory, IfNotMemory, IfRead, IfReadLimit, IfWrite}
+use Rattle.td_engine.specs.model.Machine.{State, progress_at_first}
+use Rattle.td_engine.specs.model.Scripts.{IsFront, IsRead, OfBroken, OfFront, OfScript, OfTooMuch, script_limit}
+use Rattle.td_engine.specs.model.Legality.{IsLegalState}
+use Rattle.td_engine.specs.model.Standing.{HasRun, HasRunCut, IsLeft, IsOngoing, run_of, standing}
+use Rattle.td_engine.specs.model.Told.{AppendsIfTold}
 use Rattle.td_engine.specs.declared.run.Report.{Report}
 use Rattle.td_engine.specs.declared.run.RunFault.{RunFault}
 use Rattle.td_engine.specs.declared.run.RunFault.TheVariants as faults
-use Rattle.td_tree.specs.Statements.{statements}
+use Rattle.td_tree.specs.model.Statements.{statements}
 
 -- nothing was written
 appends_nothing : (taken new : Option (List ℕ)) → new ≡ taken → Appends taken new []

@@ -2,20 +2,20 @@
 ghost use Rattle.std.specs.Prelude.{◌≡◌, ℕ, IfErr, IfOk, IsFalse, IsOk, IsTrue, OnOk, None};
 ghost use Rattle.std.specs.Prelude.{false, take};
 ghost use Rattle.std.specs.Io.KnownBytes.{Appends};
-ghost use Rattle.td.specs.Sessions.{HasAnswered, HasBegunCut, HasBegunTo, IsUnderWay};
-ghost use Rattle.td.specs.Sessions.{OfSession, status_of};
+ghost use Rattle.td.specs.model.Sessions.{HasAnswered, HasBegunCut, HasBegunTo, IsUnderWay};
+ghost use Rattle.td.specs.model.Sessions.{OfSession, status_of};
 ghost use Rattle.td.specs.declared.line.Mode.TheVariants.{Dump};
-ghost use Rattle.td_catalog.specs.Dumps.{dump_text};
-ghost use Rattle.td_engine.specs.Faults.{IfMemory, IfNotMemory, IfRead, IfReadLimit, IfWrite};
-ghost use Rattle.td_engine.specs.Scripts.{OfBroken, OfFront, OfTooMuch, script_limit};
-ghost use Rattle.td_engine.specs.Standing.{run_of, standing};
-ghost use Rattle.td_engine.specs.Told.{AppendsIfTold, GaveAtMost, StaysWhole};
+ghost use Rattle.td_catalog.specs.model.Dumps.{dump_text};
+ghost use Rattle.td_engine.specs.model.Faults.{IfMemory, IfNotMemory, IfRead, IfReadLimit, IfWrite};
+ghost use Rattle.td_engine.specs.model.Scripts.{OfBroken, OfFront, OfTooMuch, script_limit};
+ghost use Rattle.td_engine.specs.model.Standing.{run_of, standing};
+ghost use Rattle.td_engine.specs.model.Told.{AppendsIfTold, GaveAtMost, StaysWhole};
 
 use std::alloc::Global;
 use td_body::body::Body;
 use td_engine::engine::Engine;
 use td_engine::run::{Report, RunFault, run};
-use td_engine::sink::{Sink, put_all};
+use td_engine::sink::{Sink, put_bytes};
 use td_engine::source::{Broken, Source};
 
 /// A sink that lets all bytes go.
@@ -56,7 +56,7 @@ fn write_dump<B: Body, W: Sink>(
     let Ok(text) = engine.dump() else {
         return Err(RunFault::Memory { done });
     };
-    match put_all(writer, text.as_bytes()) {
+    match put_bytes(writer, text.as_bytes()) {
         Ok(()) => Ok(report),
         Err(Broken) => Err(RunFault::Write { done }),
     }

@@ -6,9 +6,8 @@ ghost use Rattle.clap.specs.Words.{IsPlainArg, app_of, found_of, new_rule, rows_
 ghost use Rattle.clap.specs.Words.{subcommand_of};
 ghost use Rattle.clap.specs.Words.{subcommand_rows_of};
 ghost use Rattle.clap.specs.declared.builder.command.Command.TheViews.{out-Command};
-ghost use Rattle.td.specs.CommandLine.{IsOfMode, IsSaidBy, Stops, dump_app, mode_word, run_app};
-ghost use Rattle.td.specs.CommandLine.{stop_rule};
-ghost use Rattle.td.specs.CommandLine.{td_app};
+ghost use Rattle.td.specs.model.CommandLine.{IsOfMode, IsSaidBy, Stops, dump_app, mode_word};
+ghost use Rattle.td.specs.model.CommandLine.{run_app, stop_rule, td_app};
 ghost use Rattle.td.specs.declared.line.Mode.{Mode};
 
 use clap::{Arg, ArgAction, ArgMatches, Command, Error};

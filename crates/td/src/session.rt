@@ -1,14 +1,14 @@
 //! Sessions: a script on an engine of its own.
 ghost use Rattle.std.specs.Prelude.{◌≡◌, None, IfErr, IfNone, IfOk, IfSome, IsFalse, IsOk, IsTrue};
 ghost use Rattle.std.specs.Prelude.{OnOk};
-ghost use Rattle.td.specs.Sessions.{HasAnswered, HasBegun, HasBegunCut, HasBegunTo, IsStatus};
-ghost use Rattle.td.specs.Sessions.{IsUnderWay, OfSession, UnlessMemory, status_of};
-ghost use Rattle.td_engine.specs.Faults.{IfMemory, IfNotMemory, IfRead, IfReadLimit, IfWrite};
-ghost use Rattle.td_engine.specs.Machine.{empty_state};
-ghost use Rattle.td_engine.specs.LegalityLaws.{IsLegalThroughout};
-ghost use Rattle.td_engine.specs.Scripts.{OfBroken, OfFront, OfTooMuch, script_limit};
-ghost use Rattle.td_engine.specs.Standing.{run_of, standing};
-ghost use Rattle.td_engine.specs.Told.{GaveAtMost, StaysWhole};
+ghost use Rattle.td.specs.model.Sessions.{HasAnswered, HasBegun, HasBegunCut, HasBegunTo, IsStatus};
+ghost use Rattle.td.specs.model.Sessions.{IsUnderWay, OfSession, UnlessMemory, status_of};
+ghost use Rattle.td_engine.specs.model.Faults.{IfMemory, IfNotMemory, IfRead, IfReadLimit, IfWrite};
+ghost use Rattle.td_engine.specs.model.Machine.{empty_state};
+ghost use Rattle.td_engine.specs.model.Legality.{IsLegalThroughout};
+ghost use Rattle.td_engine.specs.model.Scripts.{OfBroken, OfFront, OfTooMuch, script_limit};
+ghost use Rattle.td_engine.specs.model.Standing.{run_of, standing};
+ghost use Rattle.td_engine.specs.model.Told.{GaveAtMost, StaysWhole};
 
 use crate::dump::dump;
 use crate::line::Mode;

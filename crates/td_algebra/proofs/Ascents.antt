@@ -9,25 +9,24 @@ use Rattle.std.specs.List.{All, AllByRecursion, list_all, slice_get}
 use Rattle.std.specs.List.Sorted.{IsStrictlySortedBy}
 use Rattle.std.proofs.lemmas.Cmp.{nat_list_cmp_total, tied_itself}
 use Rattle.std.proofs.lemmas.List.Elements.{recursion_from_All}
-use Rattle.td_types.specs.Headings.{are_distinct, has_attribute, has_name, have_no_common}
-use Rattle.td_types.specs.Types.{Attribute, Heading, IsAscending, Type', attribute_names, same_name}
+use Rattle.td_types.specs.model.Headings.{are_distinct, has_attribute, has_name, have_no_common}
+use Rattle.td_types.specs.model.Types.{Attribute, Heading, IsAscending, Type', attribute_names, same_name}
 use Rattle.td_types.proofs.HeadingLaws.{has_attribute-names, name_cmp, same_name-itself}
-use Rattle.td_value.specs.Values.{IsTupleOf, Tuple, relation_of, tuple_cmp, tuple_names, tuple_of, value_at, value_cmp}
-use Rattle.td_value.specs.ValueOrder.{tuple_order_same, tuple_order_total}
-use Rattle.td_value.specs.code.Views.{relation_view}
+use Rattle.td_value.specs.model.Values.{IsTupleOf, Tuple, relation_of, tuple_cmp, tuple_names, tuple_of, value_at, value_cmp, relation_view}
+use Rattle.td_value.specs.code.ValueOrder.{tuple_order_same, tuple_order_total}
 use Rattle.td_value.proofs.Agreement.{entries_of_values, names_ascend}
 use Rattle.td_value.proofs.Maps.{value_at-tuple_of}
 use Rattle.td_value.proofs.SetLaws.{is_set_of}
-use Rattle.td_algebra.specs.Columns.{AreAfter, AreColumns, AreColumnsOf, IsColumn, column_attributes, columns_view}
+use Rattle.td_algebra.specs.code.Columns.{AreAfter, AreColumns, AreColumnsOf, IsColumn, column_attributes, columns_view}
 use Rattle.td_algebra.specs.declared.extension.Column.{Column}
-use Rattle.td_algebra.specs.Operators.{Addition, added_attributes, added_values, extended_tuple}
+use Rattle.td_algebra.specs.model.Operators.{Addition, added_attributes, added_values, extended_tuple}
 use Rattle.td_value.proofs.Maps.{has_name-tuple_of}
 use Rattle.td_algebra.proofs.Entries.{has_name-heading, names_of_heading, tuple_of-ascends, value_at-append}
 use Rattle.td_algebra.proofs.Extensions.{added_distinct, additions_attributes, column_names, extended_distinct, extended_values, has_name-added}
 use Rattle.td_algebra.proofs.Fitting.{additions_of, columns_of_additions}
 
 -- tuples of the same names compare as before, whatever comes after them
-fields_before : (t u x y : Tuple) → tuple_names t ≡ tuple_names u → tuple_cmp t u ≡ Less → tuple_cmp (t ++ x) (u ++ y) ≡ Less
+pub fields_before : (t u x y : Tuple) → tuple_names t ≡ tuple_names u → tuple_cmp t u ≡ Less → tuple_cmp (t ++ x) (u ++ y) ≡ Less
 fields_before [] [] x y n l = absurd (cc)
 fields_before [] (f ∷ u) x y n l = absurd (cc)
 fields_before (e ∷ t) [] x y n l = absurd (cc)
@@ -56,7 +55,7 @@ below_joined : (n : List ℕ) (t w : Tuple) → AllByRecursion (λ m. name_cmp n
 below_joined n [] w h k = k
 below_joined n (e ∷ t) w h k = (h.0, below_joined n t w h.1 k)
 
-joined_ascends : (t w : Tuple) → IsStrictlySortedBy name_cmp (tuple_names t) → IsStrictlySortedBy name_cmp (tuple_names w)
+pub joined_ascends : (t w : Tuple) → IsStrictlySortedBy name_cmp (tuple_names t) → IsStrictlySortedBy name_cmp (tuple_names w)
     → ((n m : List ℕ) → has_name n (tuple_names t) ≡ true → has_name m (tuple_names w) ≡ true → name_cmp n m ≡ Less) → IsStrictlySortedBy name_cmp (tuple_names (t ++ w))
 unfolding IsStrictlySortedBy
 joined_ascends [] w p q h = q
@@ -133,7 +132,7 @@ up_to_last (x ∷ h) (suc k) a up e last old there = by_name (same_name x.0 old)
     by_name true is rest = inr (subst (λ n. name_cmp n a.0 ≡ Less) (same_text x.0 old (sym is)) (below_at x.0 h k a up.0 e))
     by_name false is rest = rest (rw is at there)
 
-is_less : (o : Ordering) → is_lt o ≡ true → o ≡ Less
+pub is_less : (o : Ordering) → is_lt o ≡ true → o ≡ Less
 is_less Less e = refl
 is_less Equal e = absurd (true≢false (sym e))
 is_less Greater e = absurd (true≢false (sym e))

@@ -4,16 +4,16 @@ use Rattle.std.specs.Prelude.{◌&&◌, ◌||◌, not, if◌then◌else◌, is_s
 use Rattle.std.specs.List.{All, Contains}
 use Rattle.std.proofs.lemmas.List.Elements.{All-contains}
 use Rattle.std.proofs.lemmas.List.Folds.{list_any-append}
-use Rattle.td_types.specs.Headings.{agree, are_distinct, has_attribute, has_name, heading_union, outside, projection}
-use Rattle.td_types.specs.Types.{Heading, IsAscending, same_name, type_at}
+use Rattle.td_types.specs.model.Headings.{agree, are_distinct, has_attribute, has_name, heading_union, outside, projection}
+use Rattle.td_types.specs.model.Types.{Heading, IsAscending, same_name, type_at}
 use Rattle.td_types.proofs.HeadingLaws.{IsAscending-filter, IsAscending-projection, IsAscending-union, has_attribute-names, type_at-outside, type_at-projection, type_at-union, types_determine_heading}
-use Rattle.td_value.specs.Sets.{set_of}
-use Rattle.td_value.specs.Values.{Val, HaveSameMembers, IsTuple, IsTupleOf, Relation, Tuple, projected_tuple, tuple_cmp, tuple_names, value_at}
+use Rattle.td_value.specs.model.Sets.{set_of}
+use Rattle.td_value.specs.model.Values.{Val, HaveSameMembers, IsTuple, IsTupleOf, Relation, Tuple, projected_tuple, tuple_cmp, tuple_names, value_at}
 use Rattle.td_value.proofs.Agreement.{tuples_of_values, value_at-filter, value_of_projection}
 use Rattle.td_value.proofs.Kept.{IsTuple-filter}
 use Rattle.td_value.proofs.Maps.{value_at-tuple_of}
 use Rattle.td_value.proofs.Members.{set_members}
-use Rattle.td_algebra.specs.Operators.{are_partners, composition, join, own_names, united_tuple}
+use Rattle.td_algebra.specs.model.Operators.{are_partners, composition, join, own_names, united_tuple}
 use Rattle.td_algebra.specs.code.Pairs.{paired_tuple, pairs_with, partners_paired}
 use Rattle.td_algebra.proofs.Entries.{IsTuple-tuple_of, distinct_append, fields_append, has_name-heading, has_value, no_value_outside, tuple_distinct, value_at-append}
 use Rattle.td_algebra.proofs.Joined.{apart_agree, pair_members, sets_alike}

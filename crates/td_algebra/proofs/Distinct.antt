@@ -4,9 +4,9 @@ use Rattle.std.specs.List.{All, Contains}
 use Rattle.std.specs.List.Sorted.{IsPermutation}
 use Rattle.std.proofs.lemmas.List.{map-append, take_more}
 use Rattle.std.proofs.lemmas.List.Elements.{All-contains, Contains-append_left, Contains-push, Contains-push_cases}
-use Rattle.td_types.specs.Headings.{outside, projection}
-use Rattle.td_types.specs.Types.{Heading}
-use Rattle.td_value.specs.Values.{HaveSameMembers, IsTupleOf, Tuple, projected_tuple}
+use Rattle.td_types.specs.model.Headings.{outside, projection}
+use Rattle.td_types.specs.model.Types.{Heading}
+use Rattle.td_value.specs.model.Values.{HaveSameMembers, IsTupleOf, Tuple, projected_tuple}
 use Rattle.td_value.specs.code.Views.{values_of}
 use Rattle.td_algebra.specs.code.Layouts.{Sources, placed_tuple, sources_outside}
 use Rattle.td_algebra.proofs.Relations.{All-from_members}

@@ -10,13 +10,13 @@ use Rattle.std.specs.List.Sorted.{IsStrictlySortedBy}
 use Rattle.std.proofs.lemmas.Cmp.{nat_list_cmp_total}
 use Rattle.std.proofs.lemmas.List.{length-map, map-append}
 use Rattle.std.proofs.lemmas.List.Folds.{list_any-append}
-use Rattle.td_tree.specs.Names.{IsName}
-use Rattle.td_types.specs.Headings.{are_distinct, has_attribute, has_name}
-use Rattle.td_types.specs.Types.{Heading, IsHeading, attribute_names, pack, same_name, type_at}
+use Rattle.td_tree.specs.model.Names.{IsName}
+use Rattle.td_types.specs.model.Headings.{are_distinct, has_attribute, has_name}
+use Rattle.td_types.specs.model.Types.{Heading, IsHeading, attribute_names, pack, same_name, type_at}
 use Rattle.td_types.proofs.DistinctNames.{absent_below, first_of, second_of}
 use Rattle.td_types.proofs.HeadingLaws.{ascending_from_heading, attribute_from_heading, has_attribute-names, name_cmp, same_name-flips, same_name-itself, types_determine_heading}
-use Rattle.td_value.specs.Sets.{put_in}
-use Rattle.td_value.specs.Values.{Val, AreFields, IsTuple, IsTupleOf, IsValue, Tuple, entry_cmp, heading_of, pack_fields, tuple_names, tuple_of, type_of, value_at}
+use Rattle.td_value.specs.model.Sets.{put_in}
+use Rattle.td_value.specs.model.Values.{Val, AreFields, IsTuple, IsTupleOf, IsValue, Tuple, entry_cmp, heading_of, pack_fields, tuple_names, tuple_of, type_of, value_at}
 use Rattle.td_value.specs.code.Views.{values_of}
 use Rattle.td_value.proofs.Agreement.{names_ascend, tuples_of_values}
 use Rattle.td_value.proofs.Maps.{has_name-tuple_of, or_left, or_right, value_at-tuple_of}

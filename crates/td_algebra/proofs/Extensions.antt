@@ -8,22 +8,22 @@ use Rattle.std.specs.List.{All, AllByRecursion, Contains, zip}
 use Rattle.std.specs.List.Sorted.{IsPermutation}
 use Rattle.std.proofs.lemmas.List.{append-nil, at_drop_more, drop_all, length-append, length-map, map-append, take_more}
 use Rattle.std.proofs.lemmas.List.Elements.{All-append, All-from_recursion, All-map, recursion_from_All}
-use Rattle.td_types.specs.Headings.{add_missing, are_distinct, has_attribute, has_name, have_no_common, heading_union, outside}
-use Rattle.td_types.specs.Types.{Heading, IsHeading, Type', attribute_names, pack, same_name, type_at}
+use Rattle.td_types.specs.model.Headings.{add_missing, are_distinct, has_attribute, has_name, have_no_common, heading_union, outside}
+use Rattle.td_types.specs.model.Types.{Heading, IsHeading, Type', attribute_names, pack, same_name, type_at}
 use Rattle.td_types.specs.code.Views.{type_view}
 use Rattle.td_types.proofs.DistinctNames.{first_of, second_of}
 use Rattle.td_types.proofs.HeadingLaws.{has_attribute-names, same_name-itself, type_at-union}
-use Rattle.td_value.specs.Agreement.{AgreeOn}
-use Rattle.td_value.specs.Values.{IsTuple, IsTupleOf, Tuple, Val, boolean, tuple_cmp, tuple_names, tuple_of, type_of, value_at}
+use Rattle.td_value.specs.model.Agreement.{AgreeOn}
+use Rattle.td_value.specs.model.Values.{IsTuple, IsTupleOf, Tuple, Val, boolean, tuple_cmp, tuple_names, tuple_of, type_of, value_at}
 use Rattle.td_value.specs.code.Views.{values_of}
 use Rattle.td_value.proofs.Agreement.{entries_of_values, names_ascend}
 use Rattle.td_value.proofs.Maps.{value_at-tuple_of}
 use Rattle.td_value.proofs.Members.{set_members}
-use Rattle.td_algebra.specs.Columns.{AreColumns, AreColumnsOf, IsColumn, NamedColumn, cells_at, column_attributes, column_of, columns_view}
+use Rattle.td_algebra.specs.code.Columns.{AreColumns, AreColumnsOf, IsColumn, NamedColumn, cells_at, column_attributes, column_of, columns_view}
 use Rattle.td_algebra.specs.declared.extension.Column.{Column}
 use Rattle.td_algebra.specs.code.Layouts.{AreInRange, Sources, numbered_sources, sources_outside, sources_with, placed_tuple, entries_taken}
-use Rattle.td_algebra.specs.Membership.{ExtensionByMembership, IsExtended, IsIn}
-use Rattle.td_algebra.specs.Operators.{Addition, added_attributes, added_values, extended_relation, extended_tuple, relation_names}
+use Rattle.td_algebra.specs.laws.Membership.{ExtensionByMembership, IsExtended, IsIn}
+use Rattle.td_algebra.specs.model.Operators.{Addition, added_attributes, added_values, extended_relation, extended_tuple, relation_names}
 use Rattle.td_algebra.proofs.Entries.{as_many, distinct_append, heading_distinct, has_name-heading, names_apart, names_of_heading, no_value, no_value_outside, tuple_distinct, tuple_heading, tuple_of-ascends, typed_values, value_at-append}
 use Rattle.td_algebra.proofs.Fitting.{additions_of, columns_of_additions}
 use Rattle.td_algebra.proofs.Lists.{all_kept, contains_map}

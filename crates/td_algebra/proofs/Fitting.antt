@@ -6,11 +6,11 @@ use Rattle.std.specs.List.{AllByRecursion}
 use Rattle.std.specs.List.Sorted.{IsStrictlySortedBy}
 use Rattle.std.proofs.lemmas.Cmp.{tied_itself}
 use Rattle.std.proofs.lemmas.List.Elements.{recursion_from_All}
-use Rattle.td_value.specs.Values.{Tuple, boolean, tuple_cmp}
-use Rattle.td_value.specs.ValueOrder.{tuple_order_total}
-use Rattle.td_algebra.specs.Columns.{AreColumnsOf, IsColumn, NamedColumn}
-use Rattle.td_algebra.specs.Fitting.{ListsAreOfFunctions}
-use Rattle.td_algebra.specs.Operators.{Addition}
+use Rattle.td_value.specs.model.Values.{Tuple, boolean, tuple_cmp}
+use Rattle.td_value.specs.code.ValueOrder.{tuple_order_total}
+use Rattle.td_algebra.specs.code.Columns.{AreColumnsOf, IsColumn, NamedColumn}
+use Rattle.td_algebra.specs.laws.Fitting.{ListsAreOfFunctions}
+use Rattle.td_algebra.specs.model.Operators.{Addition}
 use Rattle.td_algebra.proofs.Relations.{rows_ascend}
 
 module _ {X : Type 0} (other : X) where

@@ -3,22 +3,21 @@ use Rattle.std.proofs.Common.{◌≡◌, ◌∙◌, ap, sym, refl, subst, ℕ, B
 use Rattle.std.specs.Prelude.{◌&&◌, ◌||◌, not, if◌then◌else◌, is_some}
 use Rattle.std.specs.List.{Contains, list_any}
 use Rattle.std.specs.Ordering.{eq_by_cmp}
-use Rattle.td_types.specs.Headings.{agree, has_attribute, has_name, heading_union, projection}
-use Rattle.td_types.specs.Types.{Type', Heading, IsAscending, attribute_names, type_at}
+use Rattle.td_types.specs.model.Headings.{agree, has_attribute, has_name, heading_union, projection}
+use Rattle.td_types.specs.model.Types.{Type', Heading, IsAscending, attribute_names, type_at}
 use Rattle.td_types.proofs.HeadingLaws.{IsHeading-filter, IsAscending-projection, IsAscending-union, agreement_is_one_type, ascending_from_heading, has_attribute-names, type_at-projection, type_at-union, types_determine_heading}
-use Rattle.td_value.specs.Agreement.{AgreeOn}
+use Rattle.td_value.specs.model.Agreement.{AgreeOn}
 use Rattle.std.proofs.lemmas.Cmp.{eq_by_cmp_equiv}
 use Rattle.std.proofs.lemmas.Map.Views.{Contains-from_any, list_any-from_Contains}
-use Rattle.td_value.specs.Sets.{has}
-use Rattle.td_value.specs.ValueOrder.{tuple_Decides, tuple_order_total}
-use Rattle.td_value.specs.code.Views.{relation_view}
-use Rattle.td_value.specs.Values.{Val, IsRelation, IsTuple, IsTupleOf, Relation, Tuple, projected_tuple, tuple_cmp, value_at}
+use Rattle.td_value.specs.model.Sets.{has}
+use Rattle.td_value.specs.code.ValueOrder.{tuple_Decides, tuple_order_total}
+use Rattle.td_value.specs.model.Values.{Val, IsRelation, IsTuple, IsTupleOf, Relation, Tuple, projected_tuple, tuple_cmp, value_at, relation_view}
 use Rattle.td_value.proofs.Agreement.{tuples_of_values, value_of_projection}
 use Rattle.td_value.proofs.Kept.{IsTuple-filter}
 use Rattle.td_value.proofs.Members.{by_members}
-use Rattle.td_algebra.specs.Equalities.{DifferenceIsSemidifference, IntersectionIsJoin, JoinIsAssociative, JoinIsCommutative, ProductIsJoin, RestrictionOfJoin, SemijoinIsProjectedJoin}
-use Rattle.td_algebra.specs.Membership.{AreJoinable, IsIn}
-use Rattle.td_algebra.specs.Operators.{are_partners, common_names, intersection, join, projected_relation, relation_names, restriction, semijoin, united_tuple}
+use Rattle.td_algebra.specs.laws.Equalities.{DifferenceIsSemidifference, IntersectionIsJoin, JoinIsAssociative, JoinIsCommutative, ProductIsJoin, RestrictionOfJoin, SemijoinIsProjectedJoin}
+use Rattle.td_algebra.specs.laws.Membership.{AreJoinable, IsIn}
+use Rattle.td_algebra.specs.model.Operators.{are_partners, common_names, intersection, join, projected_relation, relation_names, restriction, semijoin, united_tuple}
 use Rattle.td_algebra.proofs.Entries.{no_value_outside, same_on_heading}
 use Rattle.td_algebra.proofs.Joined.{product_join}
 use Rattle.td_algebra.proofs.JoinMembers.{IsRelation-join, agree_from_partners, join_members, join_of_pairs, partners_from_agree, semijoin_members, value_in_united}

@@ -2,17 +2,17 @@
 use Rattle.std.proofs.Common.{◌≡◌, ◌∙◌, ap, sym, refl, subst, ℕ, Bool, true, false, List, [], ◌++◌, Option, None, ◌⊎◌, inl, inr, filter, true≢false}
 use Rattle.std.specs.Prelude.{◌&&◌, ◌||◌, ◌↔◌, not, if◌then◌else◌, is_some, IsTrue}
 use Rattle.std.specs.List.{Contains, list_any}
-use Rattle.td_types.specs.Headings.{has_attribute, has_name, heading_union, outside}
-use Rattle.td_types.specs.Types.{Heading, attribute_names, same_name, type_at}
+use Rattle.td_types.specs.model.Headings.{has_attribute, has_name, heading_union, outside}
+use Rattle.td_types.specs.model.Types.{Heading, attribute_names, same_name, type_at}
 use Rattle.td_types.proofs.HeadingLaws.{has_attribute-names, type_at-union}
 use Rattle.std.proofs.lemmas.List.Folds.{list_any-append}
-use Rattle.td_value.specs.Agreement.{AgreeOn}
-use Rattle.td_value.specs.Values.{Val, HaveSameMembers, IsRelation, IsTuple, IsTupleOf, Relation, Tuple, projected_tuple, value_at}
+use Rattle.td_value.specs.model.Agreement.{AgreeOn}
+use Rattle.td_value.specs.model.Values.{Val, HaveSameMembers, IsRelation, IsTuple, IsTupleOf, Relation, Tuple, projected_tuple, value_at}
 use Rattle.td_value.proofs.Agreement.{agreement_of_values, tuples_of_values, value_of_projection}
 use Rattle.td_value.proofs.Kept.{IsTuple-filter}
 use Rattle.td_value.proofs.Members.{set_members}
-use Rattle.td_algebra.specs.Membership.{CompositionByMembership, IsComposed, IsIn, IsInBoth, JoinByMembership, ProductByMembership, SemidifferenceByMembership, SemijoinByMembership}
-use Rattle.td_algebra.specs.Operators.{are_partners, common_names, composition, join, own_names, relation_names, semidifference, semijoin, united_tuple}
+use Rattle.td_algebra.specs.laws.Membership.{CompositionByMembership, IsComposed, IsIn, IsInBoth, JoinByMembership, ProductByMembership, SemidifferenceByMembership, SemijoinByMembership}
+use Rattle.td_algebra.specs.model.Operators.{are_partners, common_names, composition, join, own_names, relation_names, semidifference, semijoin, united_tuple}
 use Rattle.td_algebra.specs.code.Pairs.{pairs_with, partners_paired}
 use Rattle.td_algebra.proofs.Entries.{has_name-heading, no_value_outside}
 use Rattle.td_algebra.proofs.Joined.{IsOfPair, apart_agree, join_pairs, joined_headed, pair_members, product_join}

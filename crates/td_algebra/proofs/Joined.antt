@@ -7,17 +7,17 @@ use Rattle.std.specs.Ordering.{eq_by_cmp}
 use Rattle.std.proofs.lemmas.Cmp.{eq_by_cmp_equiv}
 use Rattle.std.proofs.lemmas.List.Elements.{All-contains}
 use Rattle.std.proofs.lemmas.Map.Views.{Contains-from_any, list_any-from_Contains}
-use Rattle.td_tree.specs.Outcomes.{Answers}
+use Rattle.td_tree.specs.model.Outcomes.{Answers}
 use Rattle.td_tree.specs.declared.cause.Cause.TheVariants as causes
 use Rattle.td_tree.specs.declared.fault.Fault.{Fault}
-use Rattle.td_types.specs.Headings.{agree, common_part, has_attribute, has_name, have_no_common, heading_union, united_heading, is_type_or_none}
-use Rattle.td_types.specs.Types.{Type', Heading, attribute_names, type_at}
-use Rattle.td_value.specs.Sets.{has, set_of}
-use Rattle.td_value.specs.ValueOrder.{tuple_Decides, tuple_order_same, tuple_order_total}
-use Rattle.td_value.specs.Values.{HaveSameMembers, IsTupleOf, Relation, Tuple, projected_tuple, tuple_cmp}
+use Rattle.td_types.specs.model.Headings.{agree, common_part, has_attribute, has_name, have_no_common, heading_union, united_heading, is_type_or_none}
+use Rattle.td_types.specs.model.Types.{Type', Heading, attribute_names, type_at}
+use Rattle.td_value.specs.model.Sets.{has, set_of}
+use Rattle.td_value.specs.code.ValueOrder.{tuple_Decides, tuple_order_same, tuple_order_total}
+use Rattle.td_value.specs.model.Values.{HaveSameMembers, IsTupleOf, Relation, Tuple, projected_tuple, tuple_cmp}
 use Rattle.td_value.proofs.SetLaws.{has-set_of, is_set_of, set_of-ascends}
 use Rattle.td_algebra.specs.code.Layouts.{Sources}
-use Rattle.td_algebra.specs.Operators.{are_partners, common_names, join, product, united_tuple}
+use Rattle.td_algebra.specs.model.Operators.{are_partners, common_names, join, product, united_tuple}
 use Rattle.td_algebra.specs.code.Pairs.{IsPaired, paired_tuple, pair_sources, pair_tuple, pairs_with, partners_paired}
 use Rattle.td_algebra.proofs.Lists.{all_kept, contains_filter, contains_flat_map, contains_map}
 use Rattle.td_algebra.proofs.Members.{second_true}

@@ -1,10 +1,10 @@
 -- What holds of an answer's value, and the entries that tests of their names keep.
 use Rattle.std.proofs.Common.{◌≡◌, refl, ℕ, Bool, true, false, List, [], ◌∷◌, filter, IfOk, Result, Ok, Err}
 use Rattle.std.specs.Prelude.{◌||◌}
-use Rattle.td_types.specs.Headings.{has_name}
-use Rattle.td_types.specs.Types.{same_name}
+use Rattle.td_types.specs.model.Headings.{has_name}
+use Rattle.td_types.specs.model.Types.{same_name}
 use Rattle.td_types.proofs.HeadingLaws.{same_name-itself}
-use Rattle.td_value.specs.Values.{Tuple, tuple_names}
+use Rattle.td_value.specs.model.Values.{Tuple, tuple_names}
 
 pub if_ok : {A E : Type 0} (P Q : A → Type 0) (r : Result A E) → ((a : A) → P a → Q a) → IfOk r P → IfOk r Q
 if_ok P Q (Ok a) f p = f a p

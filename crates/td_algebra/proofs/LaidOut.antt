@@ -8,7 +8,7 @@ use Rattle.std.proofs.lemmas.Option.{slice_get-get_or}
 use Rattle.std.proofs.lemmas.List.Elements.{All-push}
 use Rattle.std.proofs.lemmas.List.Sorted.{IsPermutation-refl}
 use Rattle.td_types.proofs.HeadingLaws.{name_cmp}
-use Rattle.td_value.specs.Values.{Tuple, Val}
+use Rattle.td_value.specs.model.Values.{Tuple, Val}
 use Rattle.td_value.specs.code.Blocks.{Making, with_row}
 use Rattle.td_value.specs.code.Views.{values_of}
 use Rattle.td_value.proofs.Zips.{zip_values}

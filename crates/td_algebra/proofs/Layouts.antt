@@ -1,15 +1,15 @@
 -- Values taken from their places.
 use Rattle.std.proofs.Common.{◌≡◌, ◌∙◌, ◌+◌, ◌<◌, ◌≤◌, ap, append_assoc, sym, refl, subst, arith, ℕ, zero, suc, Bool, true, false, List, [], ◌∷◌, ◌++◌, Some, None, drop, get_or, length, map, take}
 use Rattle.std.specs.Prelude.{if◌then◌else◌}
-use Rattle.std.specs.List.{slice_get, zip}
+use Rattle.std.specs.List.{All, slice_get, zip}
 use Rattle.std.specs.List.Sorted.{IsPermutation, IsStrictlySortedBy}
 use Rattle.std.proofs.lemmas.List.{append-nil, at_drop_more, drop_all, get_or_default, length-map, map-append, take_all, take_more}
 use Rattle.std.proofs.lemmas.List.Sorted.{All-permutation, IsPermutation-map, IsPermutation-sym}
 use Rattle.std.proofs.lemmas.Option.{get_or_from_slice_get, slice_get-get_or, slice_get_within}
-use Rattle.td_types.specs.Headings.{has_attribute}
-use Rattle.td_types.specs.Types.{Attribute, Heading}
+use Rattle.td_types.specs.model.Headings.{has_attribute}
+use Rattle.td_types.specs.model.Types.{Attribute, Heading}
 use Rattle.td_types.proofs.HeadingLaws.{name_cmp}
-use Rattle.td_value.specs.Values.{Val, boolean, tuple_of}
+use Rattle.td_value.specs.model.Values.{Val, boolean, tuple_of}
 use Rattle.td_value.proofs.Maps.{sorted_is_tuple_of}
 use Rattle.td_value.proofs.Zips.{zip_names}
 use Rattle.td_algebra.specs.code.Layouts.{AreInRange, Sources, entries_taken, placed_tuple, placed_values, source_names, source_unless, sources_outside}
@@ -85,7 +85,8 @@ pub placed_all : (ns : List (List ℕ)) (ps : List ℕ) (vs : List Val) (layout 
 placed_all ns ps vs layout items i row e is same past inv =
     inv ∙ ap (map (value_in vs)) (take_all i items past ∙ same) ∙ sym (placed_zip ns ps vs e) ∙ ap (λ ss. placed_values ss vs) is
 
-placed_taken : (ss : Sources) (vs : List Val) → placed_values ss vs ≡ map (value_in vs) (map (λ s. s.1) ss)
+-- the values at the places
+pub placed_taken : (ss : Sources) (vs : List Val) → placed_values ss vs ≡ map (value_in vs) (map (λ s. s.1) ss)
 placed_taken [] vs = refl
 placed_taken (s ∷ ss) vs = ap (λ r. value_in vs s.1 ∷ r) (placed_taken ss vs)
 
@@ -108,6 +109,18 @@ place_below [] ps vs i e h l = absurd (omega (arith, e, l))
 place_below (n ∷ ns) [] vs i e h l = absurd (omega (arith, l))
 place_below (n ∷ ns) (p ∷ ps) vs zero e h l = h 0 (n, p) (omega arith)
 place_below (n ∷ ns) (p ∷ ps) vs (suc i) e h l = place_below ns ps vs i (omega (arith, e)) (λ k d b. h (suc k) d (omega arith)) (omega (arith, l))
+
+-- the places alone
+pub places_zipped : (ns : List (List ℕ)) (ps : List ℕ) → length ns ≡ length ps → map (λ (s : List ℕ × ℕ). s.1) (zip ns ps) ≡ ps
+places_zipped [] [] e = refl
+places_zipped [] (p ∷ ps) e = absurd (omega (arith, e))
+places_zipped (n ∷ ns) [] e = absurd (omega (arith, e))
+places_zipped (n ∷ ns) (p ∷ ps) e = ap (λ r. p ∷ r) (places_zipped ns ps (omega (arith, e)))
+
+pub places_below : (layout : Sources) (vs : List Val) → AreInRange layout vs → All (λ p. p < length vs) (map (λ (s : List ℕ × ℕ). s.1) layout)
+places_below [] vs h k d l = absurd (omega (arith, l))
+places_below (s ∷ layout) vs h zero d l = h 0 s (omega arith)
+places_below (s ∷ layout) vs h (suc k) d l = places_below layout vs (λ j e b. h (suc j) e (omega (arith, b))) k d (omega (arith, l))
 
 -- the value that is read at a place of the list
 pub value_read : (ps : List ℕ) (vs : List Val) (i place : ℕ) (v : Val) → i < length ps → place ≡ get_or ps i place → slice_get (vs ++ []) place ≡ Some v

@@ -19,6 +19,7 @@ pub mod OnNames
 pub mod Pairs
 pub mod Parts
 pub mod PartnersByValues
+pub mod Products
 pub mod Projections
 pub mod Relations
 pub mod Renamings

@@ -6,8 +6,8 @@ use Rattle.std.specs.List.{list_any, slice_get}
 use Rattle.std.proofs.lemmas.Grind.{reverse_onto}
 use Rattle.std.proofs.lemmas.List.{drop_more, length-drop}
 use Rattle.std.proofs.lemmas.Option.{slice_get_read}
-use Rattle.td_value.specs.Values.{Val, Tuple}
-use Rattle.td_algebra.specs.Lookups.{HasFirsts, RowsByParts, are_same, first_place, has_part, like_first, like_row_at, next_places, part_of}
+use Rattle.td_value.specs.model.Values.{Val, Tuple}
+use Rattle.td_algebra.specs.code.Lookups.{HasFirsts, RowsByParts, are_same, first_place, has_part, like_first, like_row_at, next_places, part_of}
 use Rattle.td_algebra.specs.code.Parts.{same_Decides, same_equiv}
 
 -- one more is left out

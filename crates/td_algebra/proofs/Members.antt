@@ -3,9 +3,9 @@ use Rattle.std.proofs.Common.{◌≡◌, ◌∙◌, ap, sym, refl, true≢false,
 use Rattle.std.specs.Ordering.{eq_by_cmp}
 use Rattle.std.specs.Bool.{IsTrue}
 use Rattle.std.specs.List.{Contains, list_all}
-use Rattle.td_value.specs.Sets.{has}
-use Rattle.td_value.specs.Values.{Tuple, tuple_cmp}
-use Rattle.td_value.specs.ValueOrder.{tuple_Decides}
+use Rattle.td_value.specs.model.Sets.{has}
+use Rattle.td_value.specs.model.Values.{Tuple, tuple_cmp}
+use Rattle.td_value.specs.code.ValueOrder.{tuple_Decides}
 use Rattle.td_value.proofs.Members.{contained, found}
 
 pub both_true : (b c : Bool) → b ≡ true → c ≡ true → (b && c) ≡ true

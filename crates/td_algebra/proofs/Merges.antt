@@ -11,11 +11,11 @@ use Rattle.std.proofs.lemmas.Bool.{eqb-true}
 use Rattle.std.proofs.lemmas.List.{append-nil, at_drop_more}
 use Rattle.std.proofs.lemmas.List.Folds.{list_any-append}
 use Rattle.std.proofs.lemmas.List.Kept.{IsStrictlySortedBy-filter}
-use Rattle.td_value.specs.Sets.{has, set_of}
-use Rattle.td_value.specs.Values.{Tuple, IsAscendingBody, Relation, relation_of, tuple_cmp}
-use Rattle.td_value.specs.ValueOrder.{tuple_Decides, tuple_order_same, tuple_order_total}
+use Rattle.td_value.specs.model.Sets.{has, set_of}
+use Rattle.td_value.specs.model.Values.{Tuple, IsAscendingBody, Relation, relation_of, tuple_cmp}
+use Rattle.td_value.specs.code.ValueOrder.{tuple_Decides, tuple_order_same, tuple_order_total}
 use Rattle.td_value.proofs.SetLaws.{is_set_of, same_members}
-use Rattle.td_algebra.specs.Operators.{union}
+use Rattle.td_algebra.specs.model.Operators.{union}
 use Rattle.td_algebra.proofs.Ascents.{ascending_set}
 use Rattle.td_algebra.proofs.Lists.{all_kept}
 use Rattle.td_algebra.specs.code.Merges.{IsAbreast, without_first, begins_with, below, is_wanted, merged_tuples, not_below}

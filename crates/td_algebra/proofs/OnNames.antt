@@ -9,13 +9,13 @@ use Rattle.std.proofs.lemmas.List.Elements.{All-from_recursion, All-get_or, All-
 use Rattle.std.proofs.lemmas.Map.Lookups.{exact_bytes}
 use Rattle.std.proofs.lemmas.Option.{get_or_from_slice_get, slice_get-get_or, slice_get-map, slice_get_within}
 use Rattle.std.proofs.lemmas.Slice.Eq.{bytes_eq-Decides, slice_eq-Decides}
-use Rattle.td_types.specs.Headings.{common_part, has_attribute, has_attributes, has_name, projection}
-use Rattle.td_types.specs.Types.{Attribute, Heading, attribute_names, same_name, type_at}
+use Rattle.td_types.specs.model.Headings.{common_part, has_attribute, has_attributes, has_name, projection}
+use Rattle.td_types.specs.model.Types.{Attribute, Heading, attribute_names, same_name, type_at}
 use Rattle.td_types.proofs.HeadingLaws.{has_attribute-names, name_cmp, same_name-itself, same_name-ties, type_at-common, type_at-projection}
-use Rattle.td_value.specs.Agreement.{agree_on}
-use Rattle.td_value.specs.Sets.{has}
-use Rattle.td_value.specs.ValueOrder.{tuple_Decides, value_Decides}
-use Rattle.td_value.specs.Values.{Val, boolean, IsTupleOf, Tuple, projected_tuple, tuple_names, type_of, value_at}
+use Rattle.td_value.specs.model.Agreement.{agree_on}
+use Rattle.td_value.specs.model.Sets.{has}
+use Rattle.td_value.specs.code.ValueOrder.{tuple_Decides, value_Decides}
+use Rattle.td_value.specs.model.Values.{Val, boolean, IsTupleOf, Tuple, projected_tuple, tuple_names, type_of, value_at}
 use Rattle.td_value.specs.code.Views.{tuple_view, values_of}
 use Rattle.td_value.proofs.Agreement.{names_ascend, value_of_projection}
 use Rattle.td_value.proofs.Kept.{IsTuple-filter}
@@ -23,7 +23,7 @@ use Rattle.td_value.proofs.SetLaws.{same_members}
 use Rattle.td_value.proofs.Zips.{unzipped}
 use Rattle.td_algebra.proofs.Entries.{as_many, has_name-heading, has_value}
 use Rattle.td_algebra.proofs.Members.{both_true, first_true, second_true}
-use Rattle.td_algebra.specs.Lookups.{ArePlacesOf, AreWithin, StandAt, are_same, has_part, part_of, partners_in, values_at, values_on}
+use Rattle.td_algebra.specs.code.Lookups.{ArePlacesOf, AreWithin, StandAt, are_same, has_part, part_of, partners_in, values_at, values_on}
 
 -- ---- values at places
 

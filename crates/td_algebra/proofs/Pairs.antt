@@ -7,16 +7,16 @@ use Rattle.std.proofs.lemmas.List.{flat_map_more, length-append, map-append, tak
 use Rattle.std.proofs.lemmas.List.Elements.{All-append}
 use Rattle.std.proofs.lemmas.List.Sorted.{All-permutation, IsPermutation-map, list_any-IsPermutation}
 use Rattle.std.proofs.Math.Seq.{drop-append_seam}
-use Rattle.td_types.specs.Headings.{are_distinct, has_attribute, has_name, outside}
-use Rattle.td_types.specs.Types.{Heading, IsHeading, attribute_names, pack}
+use Rattle.td_types.specs.model.Headings.{are_distinct, has_attribute, has_name, outside}
+use Rattle.td_types.specs.model.Types.{Heading, IsHeading, attribute_names, pack}
 use Rattle.td_types.proofs.HeadingLaws.{IsHeading-filter, has_attribute-names}
-use Rattle.td_value.specs.Sets.{set_of}
-use Rattle.td_value.specs.ValueOrder.{entry_order_same, entry_order_total}
-use Rattle.td_value.specs.Values.{Val, IsTupleOf, Tuple, entry_cmp, tuple_names, tuple_of}
+use Rattle.td_value.specs.model.Sets.{set_of}
+use Rattle.td_value.specs.code.ValueOrder.{entry_order_same, entry_order_total}
+use Rattle.td_value.specs.model.Values.{Val, IsTupleOf, Tuple, entry_cmp, tuple_names, tuple_of}
 use Rattle.td_value.specs.code.Views.{values_of}
 use Rattle.td_value.proofs.SetLaws.{has-set_of, is_set_of, set_of-ascends}
 use Rattle.td_algebra.specs.code.Layouts.{AreInRange, Sources, source_names, sources_outside, entries_taken}
-use Rattle.td_algebra.specs.Operators.{united_tuple}
+use Rattle.td_algebra.specs.model.Operators.{united_tuple}
 use Rattle.td_algebra.specs.code.Pairs.{IsPaired, paired_tuple, pairs_with, pair_sources, pair_tuple}
 use Rattle.td_algebra.proofs.Entries.{as_many, has_name-heading, heading_distinct, names_apart, names_of_heading}
 use Rattle.td_algebra.proofs.Lists.{all_kept}

@@ -3,13 +3,13 @@ use Rattle.std.proofs.Common.{◌≡◌, ◌∙◌, ap, sym, refl, subst, ℕ, B
 use Rattle.std.specs.Prelude.{◌&&◌, ◌||◌, is_some, if◌then◌else◌, Option, None, Some}
 use Rattle.std.specs.List.{All, list_any}
 use Rattle.std.proofs.lemmas.List.Elements.{All-filter, All-head, All-tail}
-use Rattle.td_types.specs.Headings.{has_attribute, has_name}
-use Rattle.td_types.specs.Types.{type_at}
+use Rattle.td_types.specs.model.Headings.{has_attribute, has_name}
+use Rattle.td_types.specs.model.Types.{type_at}
 use Rattle.td_types.proofs.HeadingLaws.{has_attribute-names, type_at-common}
-use Rattle.td_value.specs.Values.{IsTupleOf, Relation, Tuple, projected_tuple}
+use Rattle.td_value.specs.model.Values.{IsTupleOf, Relation, Tuple, projected_tuple}
 use Rattle.td_value.specs.code.Views.{values_of}
-use Rattle.td_algebra.specs.Lookups.{ArePlacesOf, are_same, has_part, part_of, partners_in, values_on, wanted_answer}
-use Rattle.td_algebra.specs.Operators.{are_partners, common_names, relation_names}
+use Rattle.td_algebra.specs.code.Lookups.{ArePlacesOf, are_same, has_part, part_of, partners_in, values_on, wanted_answer}
+use Rattle.td_algebra.specs.model.Operators.{are_partners, common_names, relation_names}
 use Rattle.td_algebra.specs.code.Pairs.{IsPaired, pairs_with}
 use Rattle.td_algebra.specs.code.Layouts.{Sources}
 use Rattle.td_algebra.proofs.Entries.{has_name-heading}

@@ -3,8 +3,8 @@ use Rattle.std.proofs.Common.{◌≡◌, ◌∙◌, ap, sym, arith, ℕ, ◌+◌
 use Rattle.std.specs.Prelude.{◌&&◌, not}
 use Rattle.std.specs.Ordering.{eq_by_cmp}
 use Rattle.std.proofs.lemmas.List.{drop_more, get_or_default}
-use Rattle.td_value.specs.Values.{Val, boolean, value_cmp}
-use Rattle.td_algebra.specs.Lookups.{AreWithin, are_same, values_at}
+use Rattle.td_value.specs.model.Values.{Val, boolean, value_cmp}
+use Rattle.td_algebra.specs.code.Lookups.{AreWithin, are_same, values_at}
 
 -- the test from a place on is that of the values there, and of those after them
 pub same_more : (values others : List Val) (places other_places : List ℕ) (i : ℕ) → i < length places → i < length other_places

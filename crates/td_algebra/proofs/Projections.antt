@@ -1,16 +1,16 @@
 -- The projections of a relation's tuples.
 use Rattle.std.proofs.Common.{◌≡◌, ◌∙◌, ap, sym, refl, ℕ, Bool, true, false, List, None, map}
 use Rattle.std.specs.Prelude.{if◌then◌else◌, is_some, option_map}
-use Rattle.td_types.specs.Headings.{has_attribute, has_name, projection}
-use Rattle.td_types.specs.Types.{Heading, type_at}
+use Rattle.td_types.specs.model.Headings.{has_attribute, has_name, projection}
+use Rattle.td_types.specs.model.Types.{Heading, type_at}
 use Rattle.td_types.proofs.HeadingLaws.{IsHeading-filter, type_at-projection}
-use Rattle.td_value.specs.Agreement.{AgreeOn}
-use Rattle.td_value.specs.Values.{IsTupleOf, Tuple, projected_tuple, type_of, value_at}
+use Rattle.td_value.specs.model.Agreement.{AgreeOn}
+use Rattle.td_value.specs.model.Values.{IsTupleOf, Tuple, projected_tuple, type_of, value_at}
 use Rattle.td_value.proofs.Agreement.{value_of_projection}
 use Rattle.td_value.proofs.Kept.{IsTuple-filter}
 use Rattle.td_value.proofs.Members.{set_members}
-use Rattle.td_algebra.specs.Membership.{IsIn, ProjectionByMembership}
-use Rattle.td_algebra.specs.Operators.{projected_relation}
+use Rattle.td_algebra.specs.laws.Membership.{IsIn, ProjectionByMembership}
+use Rattle.td_algebra.specs.model.Operators.{projected_relation}
 use Rattle.td_algebra.proofs.Entries.{same_on_heading, tuple_heading, typed_values}
 use Rattle.td_algebra.proofs.Lists.{contains_map}
 use Rattle.td_algebra.proofs.Relations.{member_headed}

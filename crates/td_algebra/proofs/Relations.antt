@@ -4,16 +4,15 @@ use Rattle.std.specs.List.{All, Contains}
 use Rattle.std.specs.List.Sorted.{IsStrictlySortedBy}
 use Rattle.std.proofs.lemmas.List.Elements.{All-contains, All-contains_itself, All-filter}
 use Rattle.std.proofs.lemmas.List.Kept.{IsStrictlySortedBy-filter}
-use Rattle.td_types.specs.Types.{Heading, IsHeading, pack}
-use Rattle.td_value.specs.Sets.{set_of}
+use Rattle.td_types.specs.model.Types.{Heading, IsHeading, pack}
+use Rattle.td_value.specs.model.Sets.{set_of}
 use Rattle.td_value.specs.code.ValueCode.{unpack_pack_rows}
-use Rattle.td_value.specs.ValueOrder.{tuple_order_same, tuple_order_total}
-use Rattle.td_value.specs.Values.{IsAscendingBody, IsRelation, IsTupleOf, Relation, Tuple, relation_of, tuple_cmp}
-use Rattle.td_value.specs.code.Views.{relation_view}
+use Rattle.td_value.specs.code.ValueOrder.{tuple_order_same, tuple_order_total}
+use Rattle.td_value.specs.model.Values.{IsAscendingBody, IsRelation, IsTupleOf, Relation, Tuple, relation_of, tuple_cmp, relation_view}
 use Rattle.td_value.proofs.Members.{set_members}
 use Rattle.td_value.proofs.Rows.{All-from_rows, AreRows-from}
 use Rattle.td_value.proofs.SetLaws.{set_of-ascends}
-use Rattle.td_algebra.specs.Operators.{restriction}
+use Rattle.td_algebra.specs.model.Operators.{restriction}
 
 -- what holds of each member holds of each item
 pub All-from_members : {X : Type 0} (P : X → Type 0) (xs : List X) → ((x : X) → Contains xs x → P x) → All P xs

@@ -5,16 +5,16 @@ use Rattle.std.specs.Cmp.Lexicographic.{same_text}
 use Rattle.std.specs.List.{All, zip}
 use Rattle.std.specs.List.Sorted.{IsPermutation}
 use Rattle.std.proofs.lemmas.List.{append-nil, length-map}
-use Rattle.td_types.specs.Headings.{are_distinct, can_rename, has_attribute, has_attributes, has_name, heading_union, new_name, new_names, renamed_attributes}
-use Rattle.td_types.specs.Types.{Heading, IsHeading, pack, same_name, type_at}
+use Rattle.td_types.specs.model.Headings.{are_distinct, can_rename, has_attribute, has_attributes, has_name, heading_union, new_name, new_names, renamed_attributes}
+use Rattle.td_types.specs.model.Types.{Heading, IsHeading, pack, same_name, type_at}
 use Rattle.td_types.proofs.HeadingLaws.{renaming_keeps_types, same_name-itself, type_at-renamed}
-use Rattle.td_value.specs.Values.{IsTupleOf, Tuple, heading_of, tuple_names, tuple_of, type_of, value_at}
+use Rattle.td_value.specs.model.Values.{IsTupleOf, Tuple, heading_of, tuple_names, tuple_of, type_of, value_at}
 use Rattle.td_value.specs.code.Views.{values_of}
 use Rattle.td_value.proofs.Maps.{value_at-tuple_of}
 use Rattle.td_value.proofs.Members.{set_members}
 use Rattle.td_algebra.specs.code.Layouts.{Sources, numbered_sources, placed_tuple, entries_taken}
-use Rattle.td_algebra.specs.Membership.{IsIn, IsRenamed, RenamingByMembership}
-use Rattle.td_algebra.specs.Operators.{renamed_relation, renamed_tuple}
+use Rattle.td_algebra.specs.laws.Membership.{IsIn, IsRenamed, RenamingByMembership}
+use Rattle.td_algebra.specs.model.Operators.{renamed_relation, renamed_tuple}
 use Rattle.td_algebra.proofs.Entries.{HaveValues, IsTupleOf-made, as_many, has_name-heading, same_on_heading, type_at-heading_of, values_of_fields}
 use Rattle.td_algebra.proofs.Lists.{contains_map}
 use Rattle.td_algebra.proofs.Members.{first_true, second_true}

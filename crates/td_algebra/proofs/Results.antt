@@ -3,15 +3,15 @@ use Rattle.std.proofs.Common.{◌≡◌, ℕ, Bool, true, false, List, [], ◌�
 use Rattle.std.specs.Prelude.{IsTrue, if◌then◌else◌, not}
 use Rattle.std.specs.List.{All, AllByRecursion, Contains, flat_map}
 use Rattle.std.proofs.lemmas.List.Elements.{All-append, recursion_from_All}
-use Rattle.td_tree.specs.Names.{IsName}
-use Rattle.td_types.specs.Headings.{add_missing, are_distinct, can_rename, has_attribute, heading_union, new_name, outside, projection, renamed_attributes}
-use Rattle.td_types.specs.Types.{Attribute, Heading, IsHeading, IsType, attribute_names, pack, same_name}
+use Rattle.td_tree.specs.model.Names.{IsName}
+use Rattle.td_types.specs.model.Headings.{add_missing, are_distinct, can_rename, has_attribute, heading_union, new_name, outside, projection, renamed_attributes}
+use Rattle.td_types.specs.model.Types.{Attribute, Heading, IsHeading, IsType, attribute_names, pack, same_name}
 use Rattle.td_types.proofs.HeadingLaws.{IsHeading-filter}
-use Rattle.td_value.specs.Values.{IsRelation, IsTuple, IsTupleOf, Relation, Tuple, AreFields, pack_fields, projected_tuple, relation_of, type_of}
+use Rattle.td_value.specs.model.Values.{IsRelation, IsTuple, IsTupleOf, Relation, Tuple, AreFields, pack_fields, projected_tuple, relation_of, type_of}
 use Rattle.td_value.proofs.Kept.{IsTuple-filter}
-use Rattle.td_algebra.specs.Membership.{AreNew, IsIn}
-use Rattle.td_algebra.specs.Operators.{Addition, added_attributes, added_values, are_partners, composition, extended_relation, extended_tuple, join, own_names, product, projected_relation, renamed_relation, renamed_tuple, set_relation, set_tuple, united_tuple, union}
-use Rattle.td_algebra.specs.Results.{IsTyped, NewNamesAreNames, ResultsAreRelations}
+use Rattle.td_algebra.specs.laws.Membership.{AreNew, IsIn}
+use Rattle.td_algebra.specs.model.Operators.{Addition, added_attributes, added_values, are_partners, composition, extended_relation, extended_tuple, join, own_names, product, projected_relation, renamed_relation, renamed_tuple, set_relation, set_tuple, united_tuple, union}
+use Rattle.td_algebra.specs.laws.Results.{IsTyped, NewNamesAreNames, ResultsAreRelations}
 use Rattle.td_algebra.proofs.Entries.{IsTuple-tuple_of, fields_append}
 use Rattle.td_algebra.proofs.Extensions.{IsTupleOf-extended, entries_outside, extended_distinct}
 use Rattle.td_algebra.proofs.Lists.{contains_filter, contains_flat_map, contains_map}

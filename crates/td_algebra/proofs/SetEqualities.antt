@@ -2,12 +2,12 @@
 use Rattle.std.proofs.Common.{◌≡◌, ◌∙◌, ◌++◌, ◌↔◌, ◌⊎◌, inl, inr, ap, sym, refl, subst, Bool, true, false, not, List, [], ◌∷◌, filter}
 use Rattle.std.specs.List.{All}
 use Rattle.std.proofs.lemmas.List.Elements.{All-append}
-use Rattle.td_value.specs.Sets.{has}
-use Rattle.td_value.specs.Values.{Tuple, Relation, IsRelation, IsTupleOf, tuple_cmp}
+use Rattle.td_value.specs.model.Sets.{has}
+use Rattle.td_value.specs.model.Values.{Tuple, Relation, IsRelation, IsTupleOf, tuple_cmp}
 use Rattle.td_value.proofs.Members.{by_members, contained, found, joined_members}
-use Rattle.td_algebra.specs.Equalities.{AreAlike, IntersectionIsAssociative, IntersectionIsCommutative, IntersectionIsIdempotent, RestrictionOfDifference, RestrictionOfIntersection, RestrictionOfUnion, UnionIsAssociative, UnionIsCommutative, UnionIsIdempotent}
-use Rattle.td_algebra.specs.Membership.{IsIn}
-use Rattle.td_algebra.specs.Operators.{intersection, restriction, union}
+use Rattle.td_algebra.specs.laws.Equalities.{AreAlike, IntersectionIsAssociative, IntersectionIsCommutative, IntersectionIsIdempotent, RestrictionOfDifference, RestrictionOfIntersection, RestrictionOfUnion, UnionIsAssociative, UnionIsCommutative, UnionIsIdempotent}
+use Rattle.td_algebra.specs.laws.Membership.{IsIn}
+use Rattle.td_algebra.specs.model.Operators.{intersection, restriction, union}
 use Rattle.td_algebra.proofs.Lists.{contains_filter}
 use Rattle.td_algebra.proofs.Relations.{IsRelation-relation_of, IsRelation-restriction, rows_headed}
 

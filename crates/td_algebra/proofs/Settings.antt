@@ -5,20 +5,20 @@ use Rattle.std.specs.Cmp.Lexicographic.{same_text}
 use Rattle.std.specs.List.{All, AllByRecursion, Contains}
 use Rattle.std.specs.List.Sorted.{IsPermutation, IsStrictlySortedBy}
 use Rattle.std.proofs.lemmas.List.Elements.{All-from_recursion, All-map, recursion_from_All}
-use Rattle.td_types.specs.Headings.{are_distinct, has_attribute, has_name, have_no_common, heading_union, outside}
-use Rattle.td_types.specs.Types.{Heading, IsHeading, Type', attribute_names, pack, same_name, type_at}
+use Rattle.td_types.specs.model.Headings.{are_distinct, has_attribute, has_name, have_no_common, heading_union, outside}
+use Rattle.td_types.specs.model.Types.{Heading, IsHeading, Type', attribute_names, pack, same_name, type_at}
 use Rattle.td_types.proofs.HeadingLaws.{IsAscending-filter, IsAscending-union, IsHeading-filter, ascending_from_heading, has_attribute-names, same_name-itself, type_at-outside, type_at-union, types_determine_heading}
-use Rattle.td_value.specs.Agreement.{AgreeOn}
-use Rattle.td_value.specs.Values.{IsTuple, IsTupleOf, Tuple, Val, tuple_cmp, tuple_names, tuple_of, type_of, value_at}
+use Rattle.td_value.specs.model.Agreement.{AgreeOn}
+use Rattle.td_value.specs.model.Values.{IsTuple, IsTupleOf, Tuple, Val, tuple_cmp, tuple_names, tuple_of, type_of, value_at}
 use Rattle.td_value.proofs.Agreement.{entries_of_values, names_ascend, value_at-filter}
 use Rattle.td_value.proofs.Kept.{IsTuple-filter}
 use Rattle.td_value.proofs.Maps.{value_at-tuple_of}
 use Rattle.td_value.proofs.Members.{set_members}
-use Rattle.td_algebra.specs.Columns.{AreColumns, AreColumnsOf, IsColumn, NamedColumn, column_attributes, columns_view}
+use Rattle.td_algebra.specs.code.Columns.{AreColumns, AreColumnsOf, IsColumn, NamedColumn, column_attributes, columns_view}
 use Rattle.td_algebra.specs.declared.extension.Column.{Column}
 use Rattle.td_algebra.specs.code.Layouts.{Sources, sources_with}
-use Rattle.td_algebra.specs.Membership.{IsIn, IsSet, SettingByMembership, other_names, set_heading_of}
-use Rattle.td_algebra.specs.Operators.{Addition, added_attributes, added_values, set_relation, set_tuple}
+use Rattle.td_algebra.specs.laws.Membership.{IsIn, IsSet, SettingByMembership, other_names, set_heading_of}
+use Rattle.td_algebra.specs.model.Operators.{Addition, added_attributes, added_values, set_relation, set_tuple}
 use Rattle.td_algebra.proofs.Entries.{distinct_append, has_value, no_value, no_value_outside, tuple_distinct, tuple_heading, tuple_of-ascends, typed_values, value_at-append}
 use Rattle.td_algebra.proofs.Extensions.{IsTupleOf-extended, added_distinct, additions_attributes, all_distinct, entries_outside, given_values, has_name-added, row_with, rows_beside, taken_beside, typed_from, values_given}
 use Rattle.td_algebra.proofs.Fitting.{additions_of, columns_of_additions}

@@ -3,10 +3,10 @@ use Rattle.std.proofs.Common.{◌≡◌, ◌∙◌, ap, refl, arith, ℕ, zero, 
 use Rattle.std.specs.Prelude.{◌&&◌, not, if◌then◌else◌, is_some}
 use Rattle.std.specs.List.{All, AllByRecursion, slice_get}
 use Rattle.std.proofs.lemmas.List.Elements.{All-from_recursion}
-use Rattle.td_types.specs.Headings.{are_distinct, has_attribute, outside}
-use Rattle.td_types.specs.Types.{Heading, IsHeading, attribute_names, pack, type_at}
+use Rattle.td_types.specs.model.Headings.{are_distinct, has_attribute, outside}
+use Rattle.td_types.specs.model.Types.{Heading, IsHeading, attribute_names, pack, type_at}
 use Rattle.td_types.proofs.HeadingLaws.{IsHeading-filter, type_at-outside}
-use Rattle.td_value.specs.Values.{Val, Tuple, tuple_names}
+use Rattle.td_value.specs.model.Values.{Val, Tuple, tuple_names}
 use Rattle.td_value.specs.code.Views.{values_of}
 use Rattle.td_algebra.specs.code.Layouts.{Sources, sources_outside, entries_taken, with_entry}
 use Rattle.td_algebra.proofs.Entries.{heading_distinct}

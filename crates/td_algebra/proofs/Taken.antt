@@ -8,14 +8,14 @@ use Rattle.std.proofs.lemmas.List.{append-nil, length-append}
 use Rattle.std.proofs.lemmas.List.Elements.{All-from_recursion}
 use Rattle.std.proofs.lemmas.List.Sorted.{All-permutation}
 use Rattle.std.proofs.lemmas.Result.{IfOk-at_ok}
-use Rattle.td_tree.specs.Outcomes.{Answers, value_if}
+use Rattle.td_tree.specs.model.Outcomes.{Answers, value_if}
 use Rattle.td_tree.specs.declared.cause.Cause.{Cause}
 use Rattle.td_tree.specs.declared.fault.Fault.{Fault}
-use Rattle.td_types.specs.Headings.{are_distinct, has_attribute, has_name, outside, projection}
-use Rattle.td_types.specs.Types.{Heading, type_at}
+use Rattle.td_types.specs.model.Headings.{are_distinct, has_attribute, has_name, outside, projection}
+use Rattle.td_types.specs.model.Types.{Heading, type_at}
 use Rattle.td_types.proofs.HeadingLaws.{type_at-outside, type_at-projection}
 use Rattle.td_types.proofs.Valued.{value_is}
-use Rattle.td_value.specs.Values.{IsTupleOf, Relation, Tuple, Val, projected_tuple, relation_of, tuple_names, tuple_of, value_at}
+use Rattle.td_value.specs.model.Values.{IsTupleOf, Relation, Tuple, Val, projected_tuple, relation_of, tuple_names, tuple_of, value_at}
 use Rattle.td_value.specs.code.Views.{values_of}
 use Rattle.td_value.proofs.Agreement.{entries_of_values, names_ascend, value_at-filter, value_of_projection}
 use Rattle.td_value.proofs.Kept.{IsTuple-filter}

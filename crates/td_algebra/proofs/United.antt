@@ -1,15 +1,15 @@
 -- A tuple united with another.
 use Rattle.std.proofs.Common.{◌≡◌, ◌∙◌, ap, sym, refl, ℕ, Bool, true, false, List, [], ◌∷◌, ◌++◌, None, filter}
 use Rattle.std.specs.Prelude.{not, if◌then◌else◌, option_map}
-use Rattle.td_tree.specs.Names.{IsName}
-use Rattle.td_types.specs.Headings.{add_missing, are_distinct, has_attribute, has_name, heading_union}
-use Rattle.td_types.specs.Types.{Attribute, Heading, IsHeading, IsType, pack, type_at}
+use Rattle.td_tree.specs.model.Names.{IsName}
+use Rattle.td_types.specs.model.Headings.{add_missing, are_distinct, has_attribute, has_name, heading_union}
+use Rattle.td_types.specs.model.Types.{Attribute, Heading, IsHeading, IsType, pack, type_at}
 use Rattle.td_types.proofs.HeadingLaws.{IsHeading-with, type_at-union}
-use Rattle.td_value.specs.Values.{AreFields, IsTuple, IsTupleOf, Tuple, pack_fields, tuple_names, type_of, value_at}
+use Rattle.td_value.specs.model.Values.{AreFields, IsTuple, IsTupleOf, Tuple, pack_fields, tuple_names, type_of, value_at}
 use Rattle.td_value.proofs.Agreement.{value_at-filter}
 use Rattle.td_value.proofs.Kept.{IsTuple-filter}
 use Rattle.td_value.proofs.Maps.{value_at-tuple_of}
-use Rattle.td_algebra.specs.Operators.{united_tuple}
+use Rattle.td_algebra.specs.model.Operators.{united_tuple}
 use Rattle.td_algebra.proofs.Entries.{IsTupleOf-tuple_of, distinct_append, fields_append, has_name-heading, has_value, tuple_distinct, typed_values, value_at-append}
 
 pub add_missing-heading : (h : Heading) (a : Attribute) → IsName a.0 → IsType a.1 → IsHeading (pack h) → IsHeading (pack (add_missing h a))

@@ -4,15 +4,14 @@ use Rattle.std.specs.Prelude.{filter, if◌then◌else◌}
 use Rattle.std.specs.List.{All, AllByRecursion}
 use Rattle.std.proofs.lemmas.List.{length-map}
 use Rattle.std.proofs.lemmas.List.Elements.{recursion_from_All}
-use Rattle.td_types.specs.Headings.{has_name, projection}
-use Rattle.td_types.specs.Types.{Heading}
-use Rattle.td_value.specs.Sets.{set_of}
-use Rattle.td_value.specs.ValueOrder.{tuple_order_same, tuple_order_total}
-use Rattle.td_value.specs.Values.{IsAscendingBody, IsTupleOf, Relation, Tuple, heading_of, projected_tuple, tuple_cmp, type_of}
-use Rattle.td_value.specs.code.Views.{relation_view}
+use Rattle.td_types.specs.model.Headings.{has_name, projection}
+use Rattle.td_types.specs.model.Types.{Heading}
+use Rattle.td_value.specs.model.Sets.{set_of}
+use Rattle.td_value.specs.code.ValueOrder.{tuple_order_same, tuple_order_total}
+use Rattle.td_value.specs.model.Values.{IsAscendingBody, IsTupleOf, Relation, Tuple, heading_of, projected_tuple, tuple_cmp, type_of, relation_view}
 use Rattle.td_value.proofs.SetLaws.{is_set_of}
 use Rattle.td_algebra.proofs.Lookups.{kept_fewer}
-use Rattle.td_algebra.specs.Operators.{projected_relation}
+use Rattle.td_algebra.specs.model.Operators.{projected_relation}
 
 -- of a list with as many items as are kept, all are
 all_stay : {X : Type 0} (p : X → Bool) (xs : List X) → length (filter p xs) ≡ length xs → filter p xs ≡ xs

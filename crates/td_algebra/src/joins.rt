@@ -3,12 +3,13 @@ ghost use Rattle.std.specs.Prelude.{◌≡◌, ◌+◌, ◌<◌, ◌^◌, ◌++�
 ghost use Rattle.std.specs.Prelude.{map};
 ghost use Rattle.std.specs.List.{All};
 ghost use Rattle.std.specs.List.Sorted.{IsPermutation};
-ghost use Rattle.td_types.specs.Headings.{agree, have_no_common};
-ghost use Rattle.td_types.specs.Types.{IsHeading, pack};
-ghost use Rattle.td_value.specs.Values.{Tuple, HaveSameMembers, IsTupleOf};
+ghost use Rattle.td_types.specs.model.Headings.{agree, have_no_common};
+ghost use Rattle.td_types.specs.model.Types.{IsHeading, attribute_names, pack};
+ghost use Rattle.td_value.specs.model.Values.{Tuple, HaveSameMembers, IsTupleOf};
 ghost use Rattle.td_value.specs.code.Views.{values_of};
-ghost use Rattle.td_algebra.specs.Lookups.{AreWithin, partners_in};
-ghost use Rattle.td_algebra.specs.Operators.{are_partners, composition, join, product};
+ghost use Rattle.td_algebra.specs.code.Columns.{AreAfter};
+ghost use Rattle.td_algebra.specs.code.Lookups.{AreWithin, partners_in};
+ghost use Rattle.td_algebra.specs.model.Operators.{are_partners, composition, join, product};
 ghost use Rattle.td_algebra.specs.code.Pairs.{IsPaired, pair_sources, pair_tuple, pairs_with};
 ghost use Rattle.td_algebra.specs.code.Pairs.{partners_paired};
 
@@ -183,11 +184,81 @@ pub fn join(alloc: Global, rel: &Rel, other: &Rel) -> Result<Rel, AllocError>
     hash_join(alloc, rel, other)
 }
 
+/// Puts the row's tuple with each of the others after those that are there.
+fn put_with_each(row: &Tuple, others: &[Tuple], pairs: &mut LaidOut) -> Result<(), AllocError>
+    requires { All (IsPaired pairs.old.0 row.now) others.now }
+    ensures layout { OnOk result (pairs.new.0 ≡ pairs.old.0) }
+    ensures put { OnOk result (pairs.new.1
+        ≡ pairs.old.1 ++ map (pair_tuple pairs.old.0 row.now) others.now) }
+{
+    let values = row.values();
+    for other in others {
+        pairs.put(values, other.values())?;
+    }
+    Ok(())
+}
+
+/// The tuples of each row with each of the others.
+fn all_pairs(
+    alloc: Global,
+    layout: &Layout,
+    rows: &[Tuple],
+    others: &[Tuple],
+) -> Result<Vec<Tuple>, AllocError>
+    requires { All (λ t. All (IsPaired layout.now t) others.now) rows.now }
+    ensures { IfOk result (λ pairs. pairs.items
+        ≡ pairs_with (λ t. others.now) (pair_tuple layout.now) rows.now) }
+{
+    let count = rows.len().saturating_mul(others.len());
+    let mut pairs = LaidOut::new(alloc, layout, count)?;
+    for row in rows {
+        put_with_each(row, others, &mut pairs)?;
+    }
+    pairs.finish(alloc)
+}
+
+/// Whether all attributes of the other heading come after those of the heading. An empty one has
+/// no first or last.
+fn comes_before(heading: &Heading, other: &Heading) -> bool
+    ensures { IsTrue result → AreAfter heading.now (attribute_names other.now) }
+{
+    let Some(place) = heading.len().checked_sub(1) else {
+        return false;
+    };
+    match (heading.at(place), other.at(0)) {
+        (Some((last, _)), Some((first, _))) => last < first,
+        _ => false,
+    }
+}
+
+/// The product, where the attributes of the second relation come after those of the first: its
+/// tuples are made in their order.
+fn ascending_product(alloc: Global, rel: &Rel, other: &Rel) -> Result<Rel, AllocError>
+    requires apart { IsTrue (have_no_common rel.now.heading other.now.heading) }
+    requires after { AreAfter rel.now.heading (attribute_names other.now.heading) }
+    ensures { IfOk result (λ r. r ≡ product rel.now other.now) }
+{
+    rel.reveal();
+    other.reveal();
+    let heading = rel.heading();
+    let others = other.heading();
+    heading.reveal();
+    others.reveal();
+    let none = Heading::empty(alloc);
+    let layout = pair_layout(alloc, &none, heading, 0, others, heading.len())?;
+    let pairs = all_pairs(alloc, &layout, rel.rows(), other.rows())?;
+    let united = without_refusal(heading.union(others))?;
+    Rel::of_ascending(united, pairs)
+}
+
 /// Each tuple united with each of the other relation.
 pub fn times(alloc: Global, rel: &Rel, other: &Rel) -> Result<Rel, AllocError>
     requires { IsTrue (have_no_common rel.now.heading other.now.heading) }
     ensures { IfOk result (λ r. r ≡ product rel.now other.now) }
 {
+    if comes_before(rel.heading(), other.heading()) {
+        return ascending_product(alloc, rel, other);
+    }
     join(alloc, rel, other)
 }
 

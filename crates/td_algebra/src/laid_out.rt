@@ -2,9 +2,9 @@
 ghost use Rattle.std.specs.Prelude.{◌≡◌, ◌<◌, ◌∷◌, ◌++◌, [], IfOk, IsTrue, OnOk, length};
 ghost use Rattle.std.specs.List.{All, Contains};
 ghost use Rattle.std.specs.List.Sorted.{IsPermutation};
-ghost use Rattle.td_algebra.specs.Columns.{cells_at};
+ghost use Rattle.td_algebra.specs.code.Columns.{cells_at};
 ghost use Rattle.td_algebra.specs.code.Layouts.{AreInRange, Sources, placed_tuple};
-ghost use Rattle.td_value.specs.Values.{IsTuple};
+ghost use Rattle.td_value.specs.model.Values.{IsTuple};
 
 use crate::extension::Column;
 use crate::layout::Layout;
@@ -28,7 +28,7 @@ impl<'a> Model for LaidOut<'a> {
     ghost use Rattle.std.specs.Prelude.{List};
     ghost use Rattle.std.specs.Coded.{coded×, coded_list, coded_ℕ};
     ghost use Rattle.td_algebra.specs.code.Layouts.{IsLaidOut, Sources};
-    ghost use Rattle.td_value.specs.Values.{Tuple};
+    ghost use Rattle.td_value.specs.model.Values.{Tuple};
     ghost use Rattle.td_value.specs.code.ValueCode.{tuple_code};
 
     ghost Value = { Sources × List Tuple };
@@ -82,8 +82,7 @@ impl<'a> LaidOut<'a> {
             → OnOk result (self.new.1
             ≡ self.old.1 ++ placed_tuple sources (first.now ++ second.now) ∷ []) }
     {
-        self.layout.put_values(first, second, &mut self.row)?;
-        self.made.push(&mut self.row)
+        self.made.push_placed(self.layout.places(), first, second)
     }
 
     /// Puts after the others the tuple whose values stand at the places in those of the first,

@@ -6,10 +6,10 @@ ghost use Rattle.std.specs.Cmp.Lexicographic.{slice_cmp};
 ghost use Rattle.std.specs.List.{All, slice_get};
 ghost use Rattle.std.specs.List.Sorted.{IsPermutation, IsStrictlySortedBy};
 ghost use Rattle.std.specs.Ordering.{nat_cmp};
-ghost use Rattle.td_algebra.specs.Columns.{cells_at};
+ghost use Rattle.td_algebra.specs.code.Columns.{cells_at};
 ghost use Rattle.td_algebra.specs.code.Layouts.{AreInRange, numbered_sources, placed_values};
 ghost use Rattle.td_algebra.specs.code.Layouts.{source_names, source_unless, sources_outside};
-ghost use Rattle.td_types.specs.Headings.{are_distinct, outside};
+ghost use Rattle.td_types.specs.model.Headings.{are_distinct, outside};
 
 use crate::extension::Column;
 use std::alloc::{AllocError, Global};
@@ -19,6 +19,7 @@ use td_tree::name::Name;
 use td_types::heading::Heading;
 use td_types::names::names_of;
 use td_value::names::NameList;
+use td_value::placing::value_at;
 use td_value::value::Value;
 
 /// The names of a result's tuples, ascending, each with the place of its value in the values of
@@ -50,18 +51,6 @@ fn places_of(alloc: Global, sources: &[(Name, usize)]) -> Result<Vec<usize>, All
         places.push(*place)?;
     }
     Ok(places)
-}
-
-/// The value at the place in those of the first, followed by those of the second.
-fn value_at<'a>(place: usize, first: &'a [Value], second: &'a [Value]) -> &'a Value
-    requires { place < length (first.now ++ second.now) }
-    ensures { slice_get (first.now ++ second.now) place ≡ Some result.now }
-{
-    if place < first.len() {
-        &first[place]
-    } else {
-        &second[place - first.len()]
-    }
 }
 
 /// The value at the place in those of the first, followed by those of the columns for a tuple at a
@@ -105,22 +94,12 @@ impl Layout {
         &self.names
     }
 
-    /// Puts into the list, in place of what is there, the values at the places in those of the
-    /// first, followed by those of the second.
-    pub(crate) fn put_values(
-        &self,
-        first: &[Value],
-        second: &[Value],
-        row: &mut Vec<Value>,
-    ) -> Result<(), AllocError>
-        requires { AreInRange self.now (first.now ++ second.now) }
-        ensures { OnOk result (row.new.items ≡ placed_values self.now (first.now ++ second.now)) }
+    /// The places of the values, in the order of the names.
+    pub(crate) fn places(&self) -> &[usize]
+        ensures places { result.now ≡ map (λ s. s.1) self.now }
+        ensures long { length result.now ≡ length (source_names self.now) }
     {
-        row.clear();
-        for place in &self.places {
-            row.push(value_at(*place, first, second).try_clone()?)?;
-        }
-        Ok(())
+        self.places.as_slice()
     }
 
     /// Puts into the list, in place of what is there, the values at the places in those of the

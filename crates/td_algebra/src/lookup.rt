@@ -1,10 +1,10 @@
 //! Rows found by their values on the attributes that two headings have in common.
 ghost use Rattle.std.specs.Prelude.{◌≡◌, ◌<◌, ◌^◌, IfOk, Some, length};
 ghost use Rattle.std.specs.List.{All, slice_get};
-ghost use Rattle.td_algebra.specs.Lookups.{ArePlacesOf, AreWithin, first_place, has_part};
-ghost use Rattle.td_algebra.specs.Lookups.{has_partner_in, part_of, partners_in};
-ghost use Rattle.td_types.specs.Headings.{has_attribute};
-ghost use Rattle.td_types.specs.Types.{Attribute, attribute_names};
+ghost use Rattle.td_algebra.specs.code.Lookups.{ArePlacesOf, AreWithin, first_place, has_part};
+ghost use Rattle.td_algebra.specs.code.Lookups.{has_partner_in, part_of, partners_in};
+ghost use Rattle.td_types.specs.model.Headings.{has_attribute};
+ghost use Rattle.td_types.specs.model.Types.{Attribute, attribute_names};
 ghost use Rattle.td_value.specs.code.Views.{values_of};
 
 use crate::part::Part;
@@ -57,13 +57,13 @@ impl<'a> Model for Lookup<'a> {
     ghost use Rattle.std.specs.Prelude.{◌≡◌, ℕ, List};
     ghost use Rattle.std.specs.Coded.{coded×, coded_list, coded_ℕ};
     ghost use Rattle.td_value.specs.code.ValueCode.{tuple_code};
-    ghost use Rattle.td_value.specs.Values.{Tuple};
+    ghost use Rattle.td_value.specs.model.Values.{Tuple};
 
     ghost Value = { List ℕ × List Tuple };
 
     ghost coded = { coded× (coded_list coded_ℕ) (coded_list tuple_code) };
 
-    ghost use Rattle.td_algebra.specs.Lookups.{HasFirsts, next_places};
+    ghost use Rattle.td_algebra.specs.code.Lookups.{HasFirsts, next_places};
 
     ghost view = { λ a. (a.places.now, a.rows.now) };
 
@@ -142,13 +142,13 @@ impl<'a> Model for Partners<'a> {
     ghost use Rattle.std.specs.Prelude.{◌<◌, List, IfSome, length};
     ghost use Rattle.std.specs.Coded.{coded_list};
     ghost use Rattle.td_value.specs.code.ValueCode.{tuple_code};
-    ghost use Rattle.td_value.specs.Values.{Tuple};
+    ghost use Rattle.td_value.specs.model.Values.{Tuple};
 
     ghost Value = { List Tuple };
 
     ghost coded = { coded_list tuple_code };
 
-    ghost use Rattle.td_algebra.specs.Lookups.{like_row_at};
+    ghost use Rattle.td_algebra.specs.code.Lookups.{like_row_at};
 
     ghost view = { λ a. like_row_at a.lookup.now a.place };
 

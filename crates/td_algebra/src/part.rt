@@ -1,6 +1,6 @@
 //! The values of a row at places.
 ghost use Rattle.std.specs.Prelude.{◌≡◌};
-ghost use Rattle.td_algebra.specs.Lookups.{AreWithin, are_same, values_at};
+ghost use Rattle.td_algebra.specs.code.Lookups.{AreWithin, are_same, values_at};
 
 use std::hash::{Hash, Hasher};
 use std::marker::Model;
@@ -16,9 +16,9 @@ pub(crate) struct Part<'a> {
 impl<'a> Model for Part<'a> {
     ghost use Rattle.std.specs.Prelude.{List};
     ghost use Rattle.std.specs.Coded.{coded_list};
-    ghost use Rattle.td_algebra.specs.Lookups.{AreWithin, values_at};
+    ghost use Rattle.td_algebra.specs.code.Lookups.{AreWithin, values_at};
     ghost use Rattle.td_value.specs.code.ValueCode.{val_code};
-    ghost use Rattle.td_value.specs.Values.{Val};
+    ghost use Rattle.td_value.specs.model.Values.{Val};
 
     ghost Value = { List Val };
 
@@ -59,7 +59,7 @@ impl<'a> Part<'a> {
 
 impl<'a> PartialEq for Part<'a> {
     ghost use Rattle.std.specs.Cmp.{partial_equiv_from_equiv};
-    ghost use Rattle.td_algebra.specs.Lookups.{are_same};
+    ghost use Rattle.td_algebra.specs.code.Lookups.{are_same};
     ghost use Rattle.td_algebra.specs.code.Parts.{same_equiv};
 
     ghost eq = { are_same };

@@ -3,9 +3,9 @@ ghost use Rattle.std.specs.Prelude.{◌≡◌, ◌∷◌, ◌++◌, [], IfOk, Is
 ghost use Rattle.std.specs.List.{All};
 ghost use Rattle.std.specs.List.Sorted.{IsPermutation};
 ghost use Rattle.td_algebra.specs.code.Layouts.{AreInRange, Sources, placed_tuple};
-ghost use Rattle.td_algebra.specs.Operators.{projected_relation};
-ghost use Rattle.td_types.specs.Headings.{has_projection};
-ghost use Rattle.td_value.specs.Values.{HaveSameMembers};
+ghost use Rattle.td_algebra.specs.model.Operators.{projected_relation};
+ghost use Rattle.td_types.specs.model.Headings.{has_projection};
+ghost use Rattle.td_value.specs.model.Values.{HaveSameMembers};
 ghost use Rattle.td_value.specs.code.Views.{values_of};
 
 use crate::laid_out::LaidOut;

@@ -4,8 +4,8 @@ ghost use Rattle.std.specs.List.{All};
 ghost use Rattle.std.specs.List.Sorted.{IsPermutation};
 ghost use Rattle.td_algebra.specs.code.Layouts.{AreInRange, Sources, numbered_sources};
 ghost use Rattle.td_algebra.specs.code.Layouts.{placed_tuple};
-ghost use Rattle.td_algebra.specs.Operators.{renamed_relation};
-ghost use Rattle.td_types.specs.Headings.{can_rename, new_names};
+ghost use Rattle.td_algebra.specs.model.Operators.{renamed_relation};
+ghost use Rattle.td_types.specs.model.Headings.{can_rename, new_names};
 ghost use Rattle.td_value.specs.code.Views.{values_of};
 
 use crate::laid_out::LaidOut;

@@ -1,8 +1,8 @@
 //! WHERE.
 ghost use Rattle.std.specs.Prelude.{◌≡◌, Bool, IfOk, length, map};
 ghost use Rattle.td_algebra.specs.code.Masks.{kept_by};
-ghost use Rattle.td_algebra.specs.Operators.{restriction};
-ghost use Rattle.td_value.specs.Values.{Tuple};
+ghost use Rattle.td_algebra.specs.model.Operators.{restriction};
+ghost use Rattle.td_value.specs.model.Values.{Tuple};
 
 use crate::sets::with_rows;
 use std::alloc::{AllocError, Global};

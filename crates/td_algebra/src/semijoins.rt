@@ -1,8 +1,9 @@
 //! MATCHING and NOT MATCHING.
 ghost use Rattle.std.specs.Prelude.{◌≡◌, IfOk, filter};
 ghost use Rattle.std.specs.List.{All, list_any};
-ghost use Rattle.td_algebra.specs.Lookups.{AreWithin, has_partner_in, wanted_answer};
-ghost use Rattle.td_algebra.specs.Operators.{are_partners, restriction, semidifference, semijoin};
+ghost use Rattle.td_algebra.specs.code.Lookups.{AreWithin, has_partner_in, wanted_answer};
+ghost use Rattle.td_algebra.specs.model.Operators.{are_partners, restriction, semidifference};
+ghost use Rattle.td_algebra.specs.model.Operators.{semijoin};
 ghost use Rattle.td_value.specs.code.Views.{values_of};
 
 use crate::lookup::{Lookup, common_places};

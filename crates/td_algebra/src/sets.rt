@@ -6,10 +6,9 @@ ghost use Rattle.std.specs.List.{All, list_all};
 ghost use Rattle.td_algebra.specs.code.Merges.{begins_with, below, is_wanted, merged_tuples};
 ghost use Rattle.td_algebra.specs.code.Merges.{not_below};
 ghost use Rattle.td_algebra.specs.code.Merges.{without_first};
-ghost use Rattle.td_algebra.specs.Operators.{difference, intersection, is_disjoint, is_subset};
-ghost use Rattle.td_algebra.specs.Operators.{restriction, union};
-ghost use Rattle.td_value.specs.Values.{IsAscendingBody, IsTupleOf};
-ghost use Rattle.td_value.specs.code.Views.{relation_view};
+ghost use Rattle.td_algebra.specs.model.Operators.{difference, intersection, is_disjoint};
+ghost use Rattle.td_algebra.specs.model.Operators.{is_subset, restriction, union};
+ghost use Rattle.td_value.specs.model.Values.{IsAscendingBody, IsTupleOf, relation_view};
 
 use std::alloc::{AllocError, Global};
 use td_value::relation::Rel;
@@ -71,7 +70,7 @@ fn put_below<'a>(
 }
 
 /// Puts copies of the rows after the others.
-fn put_all(kept: &mut Vec<Tuple>, rows: &[Tuple]) -> Result<(), AllocError>
+fn append_copies(kept: &mut Vec<Tuple>, rows: &[Tuple]) -> Result<(), AllocError>
     ensures { OnOk result (kept.new.items ≡ kept.old.items ++ rows.now) }
 {
     for row in rows {
@@ -91,7 +90,7 @@ fn merged_tuples(alloc: Global, rows: &[Tuple], others: &[Tuple]) -> Result<Vec<
         kept.push(row.try_clone()?)?;
         rest = without_first(rest, row);
     }
-    put_all(&mut kept, rest)?;
+    append_copies(&mut kept, rest)?;
     Ok(kept)
 }
 

@@ -1,10 +1,10 @@
 //! Attributes set at once, each there before or new, to values that are given as columns.
 ghost use Rattle.std.specs.Prelude.{◌≡◌, IfOk, IsTrue, List};
-ghost use Rattle.td_algebra.specs.Columns.{AreColumns, AreColumnsOf, column_attributes};
-ghost use Rattle.td_algebra.specs.Columns.{columns_view};
-ghost use Rattle.td_algebra.specs.Operators.{Addition, set_relation};
-ghost use Rattle.td_types.specs.Headings.{are_distinct};
-ghost use Rattle.td_types.specs.Types.{attribute_names};
+ghost use Rattle.td_algebra.specs.code.Columns.{AreColumns, AreColumnsOf, column_attributes};
+ghost use Rattle.td_algebra.specs.code.Columns.{columns_view};
+ghost use Rattle.td_algebra.specs.model.Operators.{Addition, set_relation};
+ghost use Rattle.td_types.specs.model.Headings.{are_distinct};
+ghost use Rattle.td_types.specs.model.Types.{attribute_names};
 
 use crate::extension::{Column, extended_layout, extended_rows, heading_with};
 use std::alloc::{AllocError, Global};

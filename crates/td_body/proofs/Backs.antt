@@ -2,7 +2,7 @@
 use Rattle.std.proofs.Common.{◌≡◌, ℕ, ◌<◌, Bool, true, false, ◌&&◌, List, [], ◌∷◌, ◌++◌, length, nat_lt, refl, set, sym, ap, ◌∙◌, arith, true≢false}
 use Rattle.std.proofs.lemmas.Bool.{ltb-true}
 use Rattle.std.specs.List.{All}
-use Rattle.td_value.specs.Values.{Tuple}
+use Rattle.td_value.specs.model.Values.{Tuple}
 use Rattle.td_body.specs.declared.hashed.index.KeyIndex.{KeyIndex}
 use Rattle.td_body.specs.declared.hashed.step.Step.{Step}
 use Rattle.td_body.specs.declared.hashed.step.Step.TheVariants.{Added, Dropped}

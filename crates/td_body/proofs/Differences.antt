@@ -1,16 +1,17 @@
 -- What changes lead to, by the members.
 use Rattle.std.proofs.Common.{◌≡◌, ◌∙◌, ◌↔◌, ◌⊎◌, inl, inr, refl, sym, true≢false, Bool, true, false, not}
-use Rattle.td_value.specs.Sets.{has}
-use Rattle.td_value.specs.Values.{Relation, Tuple, tuple_cmp}
+use Rattle.td_value.specs.model.Sets.{has}
+use Rattle.td_value.specs.model.Values.{Relation, Tuple, tuple_cmp}
 use Rattle.td_value.proofs.Members.{by_members, contained, found, joined_members}
-use Rattle.td_algebra.specs.Equalities.{AreAlike}
-use Rattle.td_algebra.specs.Membership.{IsIn}
-use Rattle.td_algebra.specs.Operators.{difference}
+use Rattle.td_algebra.specs.laws.Equalities.{AreAlike}
+use Rattle.td_algebra.specs.laws.Membership.{IsIn}
+use Rattle.td_algebra.specs.model.Operators.{difference}
 use Rattle.td_algebra.proofs.Lists.{contains_filter}
 use Rattle.td_algebra.proofs.Members.{absent, lacked}
 use Rattle.td_algebra.proofs.Relations.{IsRelation-restriction}
 use Rattle.td_algebra.proofs.SetEqualities.{IsRelation-union}
-use Rattle.td_body.specs.Bodies.{after_change, DifferencesLeadOver, WholeIsReplaced}
+use Rattle.td_body.specs.model.Bodies.{after_change}
+use Rattle.td_body.specs.laws.BodyLaws.{DifferencesLeadOver, WholeIsReplaced}
 
 -- what is in a difference
 pub in_first_alone : (r s : Relation) (t : Tuple) → IsIn t (difference r s) ↔ (IsIn t r × (IsIn t s → ⊥))

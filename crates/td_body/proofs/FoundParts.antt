@@ -2,7 +2,7 @@
 use Rattle.std.proofs.Common.{◌≡◌, ℕ, ◌<◌, Bool, true, false, not, cond, ◌||◌, ◌&&◌, List, [], ◌∷◌, ◌++◌, length, get_or, map, refl, sym, ap, ◌∙◌, arith, filter, true≢false}
 use Rattle.std.specs.List.{list_any}
 use Rattle.std.specs.Ordering.{eq_by_cmp}
-use Rattle.td_value.specs.Values.{HaveSameMembers, Tuple, tuple_cmp}
+use Rattle.td_value.specs.model.Values.{HaveSameMembers, Tuple, tuple_cmp}
 use Rattle.td_value.proofs.Members.{contained, found}
 use Rattle.td_body.specs.code.Chains.{IsWalked}
 use Rattle.td_body.specs.code.Numbered.{live}

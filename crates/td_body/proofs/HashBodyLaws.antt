@@ -3,9 +3,9 @@ use Rattle.std.proofs.Common.{◌≡◌, ◌∙◌, ◌+◌, ◌-◌, ◌∷◌,
 use Rattle.std.specs.List.{All, flat_map}
 use Rattle.std.proofs.lemmas.List.{append-nil, append_assoc, get_or_append_left}
 use Rattle.std.proofs.lemmas.List.Elements.{All-append, All-contains, Contains-push}
-use Rattle.td_types.specs.Types.{attribute_names}
-use Rattle.td_value.specs.Values.{Relation}
-use Rattle.td_body.specs.Bodies.{HaveOneHeading}
+use Rattle.td_types.specs.model.Types.{attribute_names}
+use Rattle.td_value.specs.model.Values.{Relation}
+use Rattle.td_body.specs.model.Bodies.{HaveOneHeading}
 use Rattle.td_body.specs.code.HashBodies.{IsHashBody, IsPlacedFor, held_by, kept_with_aside}
 use Rattle.td_body.specs.code.Members.{ArePlaced, Members}
 use Rattle.td_body.proofs.MembersLaws.{none_there, one}

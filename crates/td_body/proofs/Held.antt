@@ -7,13 +7,14 @@ use Rattle.std.specs.List.Sorted.{IsStrictlySortedBy}
 use Rattle.std.proofs.lemmas.Cmp.{tied_itself}
 use Rattle.std.proofs.lemmas.List.{get_or_default}
 use Rattle.std.proofs.lemmas.List.Folds.{list_any_none}
-use Rattle.td_value.specs.Agreement.{agree_on, AgreeOn}
-use Rattle.td_value.specs.Values.{Tuple, IsTuple, tuple_cmp}
-use Rattle.td_value.specs.ValueOrder.{tuple_order_total}
+use Rattle.td_value.specs.model.Agreement.{agree_on, AgreeOn}
+use Rattle.td_value.specs.model.Values.{Tuple, IsTuple, tuple_cmp}
+use Rattle.td_value.specs.code.ValueOrder.{tuple_order_total}
 use Rattle.td_value.proofs.Agreement.{agreement_of_values}
 use Rattle.td_value.proofs.Changes.{relation_ascends}
 use Rattle.td_value.proofs.Rows.{All-from_rows}
-use Rattle.td_body.specs.Bodies.{key_holds, KeyHolds, KeysHoldByMembership}
+use Rattle.td_body.specs.model.Bodies.{key_holds, KeyHolds}
+use Rattle.td_body.specs.laws.BodyLaws.{KeysHoldByMembership}
 
 both : (b c : Bool) → (not b && c) ≡ true → (b ≡ false) × (c ≡ true)
 both true c e = absurd (true≢false (sym e))

@@ -8,14 +8,14 @@ use Rattle.std.specs.List.{All, list_any, slice_get}
 use Rattle.std.specs.Option.{option_cmp}
 use Rattle.std.specs.Ordering.{is_eq, ordering_then}
 use Rattle.std.proofs.lemmas.Cmp.{lists_total}
-use Rattle.td_types.specs.Headings.{has_name}
-use Rattle.td_value.specs.Values.{Tuple, Val, projected_tuple, tuple_names, value_cmp, tuple_cmp}
-use Rattle.td_value.specs.ValueOrder.{order_total}
+use Rattle.td_types.specs.model.Headings.{has_name}
+use Rattle.td_value.specs.model.Values.{Tuple, Val, projected_tuple, tuple_names, value_cmp, tuple_cmp}
+use Rattle.td_value.specs.code.ValueOrder.{order_total}
 use Rattle.td_value.specs.code.Views.{values_of}
 use Rattle.td_value.proofs.Rows.{parts_order-lists, tuple_order-by_values}
-use Rattle.td_value.specs.Agreement.{agree_on}
-use Rattle.td_body.specs.Bodies.{key_holds}
-use Rattle.td_body.specs.code.KeyParts.{apart_at, by_places, places_from, values_at}
+use Rattle.td_value.specs.model.Agreement.{agree_on}
+use Rattle.td_body.specs.model.Bodies.{key_holds}
+use Rattle.td_body.specs.code.KeyParts.{apart_at, by_places, places_from, tuple_values_at}
 use Rattle.td_body.proofs.Apart.{apart, ties}
 
 abbrev pub found_order : List (Option Val) → List (Option Val) → Ordering
@@ -25,7 +25,7 @@ pub found_order_total : IsTotalOrder found_order
 found_order_total = lists_total (options_total order_total)
 
 -- no two of the tuples tie by their values at the places exactly where none do at the places
-pub apart-at : (places : List ℕ) (ts : List Tuple) → apart found_order found_order_total (values_at places) ts ≡ apart_at places ts
+pub apart-at : (places : List ℕ) (ts : List Tuple) → apart found_order found_order_total (tuple_values_at places) ts ≡ apart_at places ts
 apart-at places [] = refl
 apart-at places (t ∷ ts) = ap (λ b. not (list_any (λ u. is_eq (by_places places t u)) ts) && b) (apart-at places ts)
 
@@ -43,7 +43,7 @@ past_first v vs [] = refl
 past_first v vs (p ∷ ps) = ap (λ r. slice_get vs p ∷ r) (past_first v vs ps)
 
 -- the values at the key's places are those of the part
-pub values_at-part : (key : List (List ℕ)) (t : Tuple) → values_at (places_from 0 key (tuple_names t)) t ≡ map Some (values_of (projected_tuple key t))
+pub values_at-part : (key : List (List ℕ)) (t : Tuple) → tuple_values_at (places_from 0 key (tuple_names t)) t ≡ map Some (values_of (projected_tuple key t))
 values_at-part key [] = refl
 values_at-part key (e ∷ t) =
     by_test (ap (map (slice_get (values_of (e ∷ t)))) (next_places 0 key (tuple_names t)) ∙ past_first e.1 (values_of t) (places_from 0 key (tuple_names t)) ∙ values_at-part key t) (has_name e.0 key)
@@ -70,8 +70,8 @@ all_found (v ∷ vs) (w ∷ ws) = ap (ordering_then (value_cmp v w)) (all_found 
 -- by their values at the places tuples compare as their parts do
 pub by_places-parts : (key ns : List (List ℕ)) (s t : Tuple) → tuple_names s ≡ ns → tuple_names t ≡ ns → by_places (places_from 0 key ns) s t ≡ tuple_cmp (projected_tuple key s) (projected_tuple key t)
 by_places-parts key ns s t p q =
-    let first : values_at (places_from 0 key ns) s ≡ map Some (values_of (projected_tuple key s)) = subst (λ ms. values_at (places_from 0 key ms) s ≡ map Some (values_of (projected_tuple key s))) p (values_at-part key s) in
-    let second : values_at (places_from 0 key ns) t ≡ map Some (values_of (projected_tuple key t)) = subst (λ ms. values_at (places_from 0 key ms) t ≡ map Some (values_of (projected_tuple key t))) q (values_at-part key t) in
+    let first : tuple_values_at (places_from 0 key ns) s ≡ map Some (values_of (projected_tuple key s)) = subst (λ ms. tuple_values_at (places_from 0 key ms) s ≡ map Some (values_of (projected_tuple key s))) p (values_at-part key s) in
+    let second : tuple_values_at (places_from 0 key ns) t ≡ map Some (values_of (projected_tuple key t)) = subst (λ ms. tuple_values_at (places_from 0 key ms) t ≡ map Some (values_of (projected_tuple key t))) q (values_at-part key t) in
     let names : tuple_names (projected_tuple key s) ≡ tuple_names (projected_tuple key t) = names_of-part key s ∙ ap (filter (λ n. has_name n key)) (p ∙ sym q) ∙ sym (names_of-part key t) in
     rw (first, second) (all_found (values_of (projected_tuple key s)) (values_of (projected_tuple key t)))
     ∙ sym (tuple_order-by_values (projected_tuple key s) (projected_tuple key t) names ∙ parts_order-lists (values_of (projected_tuple key s)) (values_of (projected_tuple key t)))
@@ -80,7 +80,7 @@ module _ (key ns : List (List ℕ)) where
   abbrev there : List ℕ
   there = places_from 0 key ns
 
-  any_agree : (t : Tuple) (ts : List Tuple) → tuple_names t ≡ ns → All (λ u. tuple_names u ≡ ns) ts → list_any (ties found_order found_order_total (values_at there) t) ts ≡ list_any (agree_on key t) ts
+  any_agree : (t : Tuple) (ts : List Tuple) → tuple_names t ≡ ns → All (λ u. tuple_names u ≡ ns) ts → list_any (ties found_order found_order_total (tuple_values_at there) t) ts ≡ list_any (agree_on key t) ts
   any_agree t [] p all = refl
   any_agree t (u ∷ ts) p all =
       let here : is_eq (by_places there t u) ≡ agree_on key t u = ap is_eq (by_places-parts key ns t u p (all 0 u (omega arith))) in

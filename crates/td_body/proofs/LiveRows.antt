@@ -4,7 +4,7 @@ use Rattle.std.specs.declared.cmp.Ordering.{Ordering}
 use Rattle.std.specs.declared.cmp.Ordering.TheVariants.{Less}
 use Rattle.std.specs.List.{All, AllByRecursion}
 use Rattle.std.specs.List.Sorted.{IsStrictlySortedBy}
-use Rattle.td_value.specs.Values.{IsAscendingBody, Tuple, tuple_cmp}
+use Rattle.td_value.specs.model.Values.{IsAscendingBody, Tuple, tuple_cmp}
 use Rattle.td_body.specs.code.Numbered.{live}
 use Rattle.td_body.specs.code.Members.{tuples_of}
 use Rattle.td_body.proofs.TupleSets.{ascends-set, has-append, has-set, has_tuple, same_tuples}

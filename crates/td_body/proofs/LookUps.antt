@@ -6,16 +6,16 @@ use Rattle.std.proofs.lemmas.Option.{slice_get-get_or}
 use Rattle.std.proofs.lemmas.List.{length-map}
 use Rattle.std.proofs.lemmas.List.Elements.{All-contains}
 use Rattle.std.proofs.lemmas.List.Kept.{IsStrictlySortedBy-filter}
-use Rattle.td_types.specs.Headings.{has_name, projection}
-use Rattle.td_types.specs.Types.{Heading, attribute_names}
-use Rattle.td_value.specs.Agreement.{agree_on}
-use Rattle.td_value.specs.Sets.{has, set_of}
-use Rattle.td_value.specs.Values.{HaveSameMembers, IsRelation, IsTupleOf, Relation, Tuple, heading_of, tuple_cmp, tuple_names}
+use Rattle.td_types.specs.model.Headings.{has_name, projection}
+use Rattle.td_types.specs.model.Types.{Heading, attribute_names}
+use Rattle.td_value.specs.model.Agreement.{agree_on}
+use Rattle.td_value.specs.model.Sets.{has, set_of}
+use Rattle.td_value.specs.model.Values.{HaveSameMembers, IsRelation, IsTupleOf, Relation, Tuple, heading_of, tuple_cmp, tuple_names}
 use Rattle.td_value.specs.code.Views.{values_of}
 use Rattle.td_value.proofs.Members.{contained, found}
 use Rattle.td_algebra.proofs.Lists.{contains_filter}
 use Rattle.td_algebra.proofs.Relations.{All-from_members, rows_ascend, rows_headed}
-use Rattle.td_body.specs.Bodies.{key_holds}
+use Rattle.td_body.specs.model.Bodies.{key_holds}
 use Rattle.td_body.specs.code.Hashes.{with_part}
 use Rattle.td_body.specs.code.HashBodies.{IsPlacedFor}
 use Rattle.td_body.specs.code.KeyParts.{apart_at, places_from}

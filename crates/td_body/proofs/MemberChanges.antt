@@ -3,8 +3,8 @@ use Rattle.std.proofs.Common.{◌≡◌, ℕ, zero, suc, ◌+◌, ◌<◌, Bool,
 use Rattle.std.proofs.lemmas.List.{get_or-map, take_more}
 use Rattle.std.specs.Cmp.{eq_by_cmp_equiv}
 use Rattle.std.specs.Ordering.{eq_by_cmp}
-use Rattle.td_value.specs.Values.{IsAscendingBody, Tuple, tuple_cmp}
-use Rattle.td_value.specs.ValueOrder.{tuple_order_total}
+use Rattle.td_value.specs.model.Values.{IsAscendingBody, Tuple, tuple_cmp}
+use Rattle.td_value.specs.code.ValueOrder.{tuple_order_total}
 use Rattle.td_body.specs.code.Numbered.{repeats, tuple_eq}
 use Rattle.td_body.specs.code.Members.{changed_set, put_tuple}
 use Rattle.td_body.proofs.Lives.{repeats_gap}

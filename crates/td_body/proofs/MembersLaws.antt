@@ -4,10 +4,10 @@ use Rattle.std.specs.List.{All, slice_get}
 use Rattle.std.specs.Option.{option_map}
 use Rattle.std.specs.Prelude.{None, Option, Some}
 use Rattle.std.proofs.lemmas.Option.{slice_get-map}
-use Rattle.td_types.specs.Headings.{new_names}
+use Rattle.td_types.specs.model.Headings.{new_names}
 use Rattle.std.proofs.lemmas.List.{get_or_append_left, length-map}
 use Rattle.std.proofs.lemmas.List.Elements.{All-contains, Contains-push}
-use Rattle.td_types.specs.Types.{Heading, attribute_names}
+use Rattle.td_types.specs.model.Types.{Heading, attribute_names}
 use Rattle.td_body.specs.code.KeyParts.{places_from}
 use Rattle.td_body.specs.code.Members.{ArePlaced}
 

@@ -12,13 +12,13 @@ use Rattle.std.specs.Ordering.{is_eq}
 use Rattle.std.specs.declared.cmp.Ordering.{Ordering}
 use Rattle.std.specs.declared.cmp.Ordering.TheVariants.{Less, Equal, Greater}
 use Rattle.std.specs.Prelude.{filter}
-use Rattle.td_value.specs.Values.{HaveSameMembers, IsAscendingBody, Tuple, tuple_cmp}
-use Rattle.td_value.specs.ValueOrder.{tuple_order_same}
+use Rattle.td_value.specs.model.Values.{HaveSameMembers, IsAscendingBody, Tuple, tuple_cmp}
+use Rattle.td_value.specs.code.ValueOrder.{tuple_order_same}
 use Rattle.td_value.proofs.Members.{set_members}
 use Rattle.td_algebra.proofs.Lists.{contains_filter}
 use Rattle.td_body.specs.declared.hashed.index.KeyIndex.{KeyIndex}
 use Rattle.td_body.specs.code.KeyIndexes.{IsIndex, agree_at}
-use Rattle.td_body.specs.code.KeyParts.{apart_at, values_at}
+use Rattle.td_body.specs.code.KeyParts.{apart_at, tuple_values_at}
 use Rattle.td_body.specs.code.Numbered.{live, repeats, tuple_eq}
 use Rattle.td_body.specs.code.Members.{AreMembers, IsFresh, places_in, put_tuple, tuples_of}
 use Rattle.td_body.proofs.KeyParts.{found_order_total}
@@ -141,9 +141,9 @@ agree_laws : (places : List ℕ) → IsEquivalence (agree_at places)
 agree_laws places =
     let laws = eq_by_cmp_equiv found_order_total in
     record {
-      refl = λ s. laws.refl (values_at places s);
-      symm = λ s t. laws.symm (values_at places s) (values_at places t);
-      congr = λ r s t. laws.congr (values_at places r) (values_at places s) (values_at places t);
+      refl = λ s. laws.refl (tuple_values_at places s);
+      symm = λ s t. laws.symm (tuple_values_at places s) (tuple_values_at places t);
+      congr = λ r s t. laws.congr (tuple_values_at places r) (tuple_values_at places s) (tuple_values_at places t);
     }
 
 -- no two of a set agree where there is no clash

@@ -6,14 +6,14 @@ use Rattle.std.specs.declared.cmp.Ordering.TheVariants.{Less, Equal, Greater}
 use Rattle.std.specs.List.{All, list_all}
 use Rattle.std.specs.Ordering.{is_eq, ordering_reverse}
 use Rattle.std.proofs.lemmas.List.{length-map}
-use Rattle.td_types.specs.Headings.{has_name, projection}
-use Rattle.td_types.specs.Types.{Heading, attribute_names}
-use Rattle.td_value.specs.Agreement.{agree_on}
-use Rattle.td_value.specs.Values.{Tuple, IsTupleOf, heading_of, projected_tuple, tuple_cmp, tuple_names, type_of}
-use Rattle.td_value.specs.ValueOrder.{tuple_order_total}
+use Rattle.td_types.specs.model.Headings.{has_name, projection}
+use Rattle.td_types.specs.model.Types.{Heading, attribute_names}
+use Rattle.td_value.specs.model.Agreement.{agree_on}
+use Rattle.td_value.specs.model.Values.{Tuple, IsTupleOf, heading_of, projected_tuple, tuple_cmp, tuple_names, type_of}
+use Rattle.td_value.specs.code.ValueOrder.{tuple_order_total}
 use Rattle.td_value.specs.code.Views.{values_of}
 use Rattle.td_value.proofs.Rows.{parts_order-lists, tuple_order-by_values}
-use Rattle.td_body.specs.code.KeyParts.{places_from, values_at, values_cmp}
+use Rattle.td_body.specs.code.KeyParts.{places_from, tuple_values_at, values_cmp}
 use Rattle.td_body.proofs.KeyParts.{all_found, found_order, values_at-part}
 
 pub names-heading : (t : Tuple) → attribute_names (heading_of t) ≡ tuple_names t
@@ -79,7 +79,7 @@ module _ (key : List (List ℕ)) where
       -- a tuple agrees with the part where its values at the places are the part's
       pub agrees : (ns : List (List ℕ)) → tuple_names t ≡ ns → is_eq (values_cmp (places_from 0 key ns) t (values_of part)) ≡ agree_on key part t
       agrees ns names =
-          let values = subst (λ ms. values_at (places_from 0 key ms) t ≡ map Some (values_of (projected_tuple key t))) names (values_at-part key t) in
+          let values = subst (λ ms. tuple_values_at (places_from 0 key ms) t ≡ map Some (values_of (projected_tuple key t))) names (values_at-part key t) in
           let compared = ap (λ vs. found_order vs (map Some (values_of part))) values ∙ all_found (values_of (projected_tuple key t)) (values_of part)
           ∙ sym (tuple_order-by_values (projected_tuple key t) part same_names ∙ parts_order-lists (values_of (projected_tuple key t)) (values_of part)) in
           ap is_eq compared ∙ ap is_eq (tuple_order_total.antisymm (projected_tuple key t) part) ∙ turned (tuple_cmp part (projected_tuple key t))

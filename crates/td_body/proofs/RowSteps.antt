@@ -4,8 +4,8 @@ use Rattle.std.proofs.lemmas.Cmp.{eq_by_cmp_equiv}
 use Rattle.std.proofs.lemmas.List.{get_or_append_left, take_more}
 use Rattle.std.specs.Cmp.{IsEquivalence}
 use Rattle.std.specs.List.{All, list_any}
-use Rattle.td_value.specs.Values.{Tuple}
-use Rattle.td_value.specs.ValueOrder.{tuple_Decides, tuple_order_total}
+use Rattle.td_value.specs.model.Values.{Tuple}
+use Rattle.td_value.specs.code.ValueOrder.{tuple_Decides, tuple_order_total}
 use Rattle.td_body.specs.code.Numbered.{live, repeats, tuple_eq}
 use Rattle.td_body.proofs.Lives.{live_gap, live_more, repeats_gap}
 

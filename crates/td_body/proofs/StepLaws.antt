@@ -6,8 +6,8 @@ use Rattle.std.proofs.lemmas.List.Sums.{fold_push}
 use Rattle.std.specs.Ordering.{is_eq}
 use Rattle.std.specs.declared.cmp.Ordering.{Ordering}
 use Rattle.std.specs.declared.cmp.Ordering.TheVariants.{Less, Equal, Greater}
-use Rattle.td_value.specs.Sets.{put_in}
-use Rattle.td_value.specs.Values.{IsAscendingBody, Tuple, tuple_cmp}
+use Rattle.td_value.specs.model.Sets.{put_in}
+use Rattle.td_value.specs.model.Values.{IsAscendingBody, Tuple, tuple_cmp}
 use Rattle.td_body.specs.declared.hashed.index.KeyIndex.{KeyIndex}
 use Rattle.td_body.specs.declared.hashed.step.Step.{Step}
 use Rattle.td_body.specs.declared.hashed.step.Step.TheVariants.{Kept, Added, Dropped}

@@ -3,9 +3,9 @@ use Rattle.std.specs.Ordering.{eq_by_cmp}
 use Rattle.std.proofs.Common.{◌≡◌, Bool, true, false, List, [], ◌∷◌, ◌++◌, filter, refl, sym, ap, ◌∙◌, subst, true≢false}
 use Rattle.std.specs.Prelude.{not, ◌||◌, ◌&&◌}
 use Rattle.std.proofs.lemmas.List.Kept.{IsStrictlySortedBy-filter}
-use Rattle.td_value.specs.Sets.{has, set_of}
-use Rattle.td_value.specs.Values.{Tuple, IsAscendingBody, tuple_cmp}
-use Rattle.td_value.specs.ValueOrder.{tuple_Decides, tuple_order_same, tuple_order_total}
+use Rattle.td_value.specs.model.Sets.{has, set_of}
+use Rattle.td_value.specs.model.Values.{Tuple, IsAscendingBody, tuple_cmp}
+use Rattle.td_value.specs.code.ValueOrder.{tuple_Decides, tuple_order_same, tuple_order_total}
 use Rattle.td_value.proofs.SetLaws as sets
 use Rattle.td_body.specs.code.Members.{changed_set, put_tuple, without}
 use Rattle.td_body.proofs.Splits.{split}

@@ -7,15 +7,15 @@ use Rattle.std.specs.Cmp.{IsEquivalence}
 use Rattle.std.specs.List.{list_any}
 use Rattle.std.specs.Option.{option_cmp}
 use Rattle.std.specs.Ordering.{is_eq, ordering_reverse}
-use Rattle.td_types.specs.Keys.{list_same}
-use Rattle.td_value.specs.Values.{Tuple, Val, value_cmp}
-use Rattle.td_value.specs.ValueOrder.{equal_from, order_same}
+use Rattle.td_types.specs.code.Keys.{list_same}
+use Rattle.td_value.specs.model.Values.{Tuple, Val, value_cmp}
+use Rattle.td_value.specs.code.ValueOrder.{equal_from, order_same}
 use Rattle.indexmap.specs.IndexMap.{IndexMap}
 use Rattle.td_body.specs.code.Chains.{AreChained, AreLinked, IsWalked, last_in, latest}
 use Rattle.td_body.specs.code.Numbered.{live, repeats}
 use Rattle.td_body.specs.code.KeyIndexes.{AreGone, IsLinked, agree_at, hashes_in}
 use Rattle.td_body.specs.code.Hashes.{found_hash, part_hash}
-use Rattle.td_body.specs.code.KeyParts.{values_at, values_cmp}
+use Rattle.td_body.specs.code.KeyParts.{tuple_values_at, values_cmp}
 use Rattle.td_body.specs.declared.hashed.index.KeyIndex.{KeyIndex}
 use Rattle.td_body.proofs.KeyParts.{found_order, found_order_total}
 use Rattle.td_body.proofs.Lives.{live_gap, live_more, none_live, repeats_gap}
@@ -73,13 +73,13 @@ equal_to_self Less e = cc
 equal_to_self Equal e = refl
 equal_to_self Greater e = cc
 
-pub same_values : (places : List ℕ) (r s : Tuple) → agree_at places r s ≡ true → values_at places r ≡ values_at places s
-same_values places r s e = tied_values (values_at places r) (values_at places s) e
+pub same_values : (places : List ℕ) (r s : Tuple) → agree_at places r s ≡ true → tuple_values_at places r ≡ tuple_values_at places s
+same_values places r s e = tied_values (tuple_values_at places r) (tuple_values_at places s) e
 
-pub agreed : (places : List ℕ) (r s : Tuple) → values_at places r ≡ values_at places s → agree_at places r s ≡ true
+pub agreed : (places : List ℕ) (r s : Tuple) → tuple_values_at places r ≡ tuple_values_at places s → agree_at places r s ≡ true
 agreed places r s e =
-    ap (λ vs. is_eq (found_order (values_at places r) vs)) (sym e)
-    ∙ equal_to_self (found_order (values_at places r) (values_at places r)) (found_order_total.antisymm (values_at places r) (values_at places r))
+    ap (λ vs. is_eq (found_order (tuple_values_at places r) vs)) (sym e)
+    ∙ equal_to_self (found_order (tuple_values_at places r) (tuple_values_at places r)) (found_order_total.antisymm (tuple_values_at places r) (tuple_values_at places r))
 
 -- tuples that agree have one hash
 pub same_hash : (places : List ℕ) (r s : Tuple) → agree_at places r s ≡ true → part_hash places s ≡ part_hash places r
@@ -87,7 +87,7 @@ same_hash places r s e = ap found_hash (sym (same_values places r s e))
 
 -- so have those whose values are those of a part
 pub hash_with : (places : List ℕ) (part : List Val) (t : Tuple) → is_eq (values_cmp places t part) ≡ true → part_hash places t ≡ found_hash (map Some part)
-hash_with places part t e = ap found_hash (tied_values (values_at places t) (map Some part) e)
+hash_with places part t e = ap found_hash (tied_values (tuple_values_at places t) (map Some part) e)
 
 pub either : (a b : Bool) → (a ≡ true → b ≡ true) → (b ≡ true → a ≡ true) → a ≡ b
 either true b f g = sym (f refl)

@@ -1,2 +1,3 @@
-pub mod Bodies
 pub mod code
+pub mod laws
+pub mod model

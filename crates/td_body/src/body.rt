@@ -2,12 +2,11 @@
 ghost use Rattle.std.specs.Prelude.{◌≡◌, ◌∷◌, ◌++◌, ℕ, ◌<◌, List, [], IfErr, IfOk, IfSome};
 ghost use Rattle.std.specs.Prelude.{IsTrue, OnErr, OnOk, false, length, map, not};
 ghost use Rattle.std.specs.List.{All, slice_get};
-ghost use Rattle.td_types.specs.Headings.{has_attributes, projection};
-ghost use Rattle.td_value.specs.Sets.{has};
-ghost use Rattle.td_value.specs.Values.{IsRelation, IsTupleOf, Relation, heading_of, tuple_cmp};
-ghost use Rattle.td_value.specs.Values.{with_tuple, without_tuple};
-ghost use Rattle.td_value.specs.code.Views.{relation_view};
-ghost use Rattle.td_body.specs.Bodies.{after_change, agreeing, key_holds};
+ghost use Rattle.td_types.specs.model.Headings.{has_attributes, projection};
+ghost use Rattle.td_value.specs.model.Sets.{has};
+ghost use Rattle.td_value.specs.model.Values.{IsRelation, IsTupleOf, Relation, heading_of};
+ghost use Rattle.td_value.specs.model.Values.{relation_view, tuple_cmp, with_tuple, without_tuple};
+ghost use Rattle.td_body.specs.model.Bodies.{after_change, agreeing, key_holds};
 
 use std::alloc::{AllocError, Global};
 use td_tree::name::Name;

@@ -1,6 +1,6 @@
 //! What a change makes of a relation.
 ghost use Rattle.std.specs.Prelude.{◌≡◌, IfOk};
-ghost use Rattle.td_body.specs.Bodies.{after_change};
+ghost use Rattle.td_body.specs.model.Bodies.{after_change};
 
 use std::alloc::{AllocError, Global};
 use td_algebra::sets::{minus, union};

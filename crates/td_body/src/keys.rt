@@ -4,11 +4,11 @@ ghost use Rattle.std.specs.List.{IsAllAdjacentAnswer, slice_get};
 ghost use Rattle.std.specs.List.Sorted.{IsPermutation, IsSortedBy};
 ghost use Rattle.std.specs.Option.{option_cmp};
 ghost use Rattle.std.specs.Ordering.{is_eq, is_lt};
-ghost use Rattle.td_types.specs.Headings.{projection};
-ghost use Rattle.td_value.specs.Agreement.{agree_on};
-ghost use Rattle.td_value.specs.Values.{heading_of, value_cmp};
+ghost use Rattle.td_types.specs.model.Headings.{projection};
+ghost use Rattle.td_value.specs.model.Agreement.{agree_on};
+ghost use Rattle.td_value.specs.model.Values.{heading_of, value_cmp};
 ghost use Rattle.td_value.specs.code.Views.{values_of};
-ghost use Rattle.td_body.specs.Bodies.{agreeing, key_holds};
+ghost use Rattle.td_body.specs.model.Bodies.{agreeing, key_holds};
 ghost use Rattle.td_body.specs.code.KeyParts.{by_places, places_from, values_cmp};
 
 use std::alloc::{AllocError, Global};

@@ -1,5 +1,6 @@
 //! What keys and changes of bodies are to their callers: each function has its contract alone.
-ghost use Rattle.td_body.specs.Bodies.{DifferencesLeadOver, KeysHoldByMembership, WholeIsReplaced};
+ghost use Rattle.td_body.specs.laws.BodyLaws.{DifferencesLeadOver, KeysHoldByMembership};
+ghost use Rattle.td_body.specs.laws.BodyLaws.{WholeIsReplaced};
 
 /// A key holds exactly where two members that have one value for each of its names are one.
 pub fn keys_hold_by_membership()

@@ -21,7 +21,7 @@ pub struct SortedBody {
 
 impl Model for SortedBody {
     ghost use Rattle.std.specs.Prelude.{map};
-    ghost use Rattle.td_body.specs.Bodies.{BodyView, HaveOneHeading};
+    ghost use Rattle.td_body.specs.model.Bodies.{BodyView, HaveOneHeading};
     ghost use Rattle.td_body.specs.code.BodyCode.{body_code};
 
     ghost Value = { BodyView };

@@ -1,7 +1,7 @@
 -- Catalogues that go back, one database after another.
 use Rattle.std.proofs.Common.{◌≡◌, ◌+◌, ◌<◌, ◌≤◌, ◌∷◌, ◌∙◌, ℕ, Bool, true, false, [], ap, arith, length, refl, sym, take}
 use Rattle.std.proofs.lemmas.List.{length-append, take-append-le, take-take, take_all}
-use Rattle.td_catalog.specs.KeptDatabases.{CatalogView, stages}
+use Rattle.td_catalog.specs.code.KeptDatabases.{CatalogView, stages}
 
 pub all_stages : (v : CatalogView) → stages v ≡ take (length v.kept + 1) (stages v)
 all_stages v =

@@ -6,11 +6,11 @@ use Rattle.std.specs.Map.{keys_of}
 use Rattle.std.proofs.lemmas.Option.{slice_get-map}
 use Rattle.std.proofs.lemmas.List.{length-map}
 use Rattle.td_catalog.specs.code.CatalogViews.{virtual_view}
-use Rattle.td_catalog.specs.Database.{Database, VirtualRelvar}
+use Rattle.td_catalog.specs.model.Database.{Database, VirtualRelvar}
 use Rattle.td_catalog.specs.declared.entry.VirtualEntry.{VirtualEntry}
 use Rattle.td_catalog.proofs.Lists.{both, not_true}
-use Rattle.td_types.specs.Headings.{are_distinct, has_name}
-use Rattle.td_types.specs.Types.{same_name}
+use Rattle.td_types.specs.model.Headings.{are_distinct, has_name}
+use Rattle.td_types.specs.model.Types.{same_name}
 use Rattle.td_types.proofs.HeadingLaws.{same_name-flips}
 
 -- a name that is none of the names that stand before it

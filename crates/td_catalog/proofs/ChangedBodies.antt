@@ -4,17 +4,17 @@ use Rattle.std.specs.Prelude.{None, Option, Result, Ok, Err, OnErr, OnOk, ⊤, i
 use Rattle.std.specs.List.{prefix_len, slice_get}
 use Rattle.std.specs.Map.{keys_of}
 use Rattle.indexmap.specs.Layout.{set_value_at}
-use Rattle.td_body.specs.Bodies.{after_change}
+use Rattle.td_body.specs.model.Bodies.{after_change}
 use Rattle.td_catalog.specs.code.CatalogViews.{IsBodyOf, IsCatalog, IsEntry, Rows, base_view, database_view, entry_keys}
-use Rattle.td_catalog.specs.Database.{BaseRelvar, Database, base_among, base_named, base_relvar, with_bases, with_body, with_relation}
-use Rattle.td_catalog.specs.TypedDatabases.{AreTyped, IsTypedBase}
+use Rattle.td_catalog.specs.model.Database.{BaseRelvar, Database, base_among, base_named, base_relvar, with_bases, with_body, with_relation}
+use Rattle.td_catalog.specs.model.TypedDatabases.{AreTyped, IsTypedBase}
 use Rattle.td_catalog.specs.declared.entry.BaseEntry.{BaseEntry}
 use Rattle.td_catalog.proofs.ChangedRelations.{typed_after_change}
 use Rattle.td_catalog.proofs.Changes.{catalog_with_body, view_with_body, with_base_rows}
 use Rattle.td_catalog.proofs.Places.{changed, other_name, with_entry_body}
 use Rattle.td_catalog.proofs.TypedChanges.{found_base}
-use Rattle.td_types.specs.Types.{same_name}
-use Rattle.td_value.specs.Values.{IsRelation, Relation}
+use Rattle.td_types.specs.model.Types.{same_name}
+use Rattle.td_value.specs.model.Values.{IsRelation, Relation}
 
 -- a relvar that holds the relation that it held is the same
 own_relation : (name : List ℕ) (rs : List BaseRelvar) (r : BaseRelvar) → base_among name rs ≡ Some r → with_relation name r.relation rs ≡ rs

@@ -4,13 +4,13 @@ use Rattle.std.specs.Prelude.{filter, not}
 use Rattle.std.specs.List.{AllByRecursion}
 use Rattle.std.specs.declared.cmp.Ordering.{Ordering}
 use Rattle.std.specs.declared.cmp.Ordering.TheVariants.{Less, Equal, Greater}
-use Rattle.td_body.specs.Bodies.{after_change}
-use Rattle.td_catalog.specs.TypedDatabases.{AreTyped}
-use Rattle.td_types.specs.TypeLists.{DeclaredType}
-use Rattle.td_types.specs.Types.{Attrs, pack}
-use Rattle.td_value.specs.KnownValues.{HasHeading, HaveHeading}
-use Rattle.td_value.specs.Sets.{has, with_item_placed, put_in, set_of}
-use Rattle.td_value.specs.Values.{Relation, Tuple, pack_fields, pack_rows, tuple_cmp}
+use Rattle.td_body.specs.model.Bodies.{after_change}
+use Rattle.td_catalog.specs.model.TypedDatabases.{AreTyped}
+use Rattle.td_types.specs.model.TypeLists.{DeclaredType}
+use Rattle.td_types.specs.model.Types.{Attrs, pack}
+use Rattle.td_value.specs.model.KnownValues.{HasHeading, HaveHeading}
+use Rattle.td_value.specs.model.Sets.{has, with_item_placed, put_in, set_of}
+use Rattle.td_value.specs.model.Values.{Relation, Tuple, pack_fields, pack_rows, tuple_cmp}
 
 -- ---- what holds of each item
 

@@ -6,9 +6,9 @@ use Rattle.std.specs.Map.{keys_of, lookup}
 use Rattle.indexmap.specs.IndexMap.{IndexMap, insert_entry}
 use Rattle.indexmap.specs.Layout.{set_value_at}
 use Rattle.td_catalog.specs.code.CatalogViews.{AreEntries, IsBodyOf, IsCatalog, IsEntry, Rows, base_view, constraint_view, database_view, entry_keys, virtual_view}
-use Rattle.td_catalog.specs.Database.{BaseRelvar, NamedConstraint, VirtualRelvar, base_relvar, base_named, database_scope, knows_constraint, knows_relvar, with_base, with_body, with_constraint, with_virtual}
-use Rattle.td_catalog.specs.WrittenDefinitions.{ConstraintIsWritten}
-use Rattle.td_catalog.specs.TypedDatabases.{AreTyped, IsConstrained, IsTyped, IsTypedBase, IsTypedConstraint, IsTypedVirtual}
+use Rattle.td_catalog.specs.model.Database.{BaseRelvar, NamedConstraint, VirtualRelvar, base_relvar, base_named, database_scope, knows_constraint, knows_relvar, with_base, with_body, with_constraint, with_virtual}
+use Rattle.td_catalog.specs.model.WrittenDefinitions.{ConstraintIsWritten}
+use Rattle.td_catalog.specs.model.TypedDatabases.{AreTyped, IsConstrained, IsTyped, IsTypedBase, IsTypedConstraint, IsTypedVirtual}
 use Rattle.td_catalog.specs.declared.entry.BaseEntry.{BaseEntry}
 use Rattle.td_catalog.specs.declared.entry.ConstraintEntry.{ConstraintEntry}
 use Rattle.td_catalog.specs.declared.entry.VirtualEntry.{VirtualEntry}
@@ -16,11 +16,11 @@ use Rattle.td_catalog.proofs.TypedChanges.{held, typed_empty, typed_with_base, t
 use Rattle.td_catalog.proofs.Lists.{all_push, neither}
 use Rattle.td_catalog.proofs.Places.{IsChanged, changed, other_name, with_entry_body}
 use Rattle.td_catalog.proofs.Rows.{has_append, known, rows_with, view_with}
-use Rattle.td_tree.specs.Names.{IsName}
-use Rattle.td_tree.specs.WrittenTrees.{IsWritten}
-use Rattle.td_types.specs.TypeLists.{AreDeclared, AreKnown, DeclaredType}
-use Rattle.td_types.specs.Types.{pack, same_name}
-use Rattle.td_value.specs.Values.{IsRelation, Relation}
+use Rattle.td_tree.specs.model.Names.{IsName}
+use Rattle.td_tree.specs.model.WrittenTrees.{IsWritten}
+use Rattle.td_types.specs.model.TypeLists.{AreDeclared, AreKnown, DeclaredType}
+use Rattle.td_types.specs.model.Types.{pack, same_name}
+use Rattle.td_value.specs.model.Values.{IsRelation, Relation}
 
 -- ---- rows with other ones in one list
 

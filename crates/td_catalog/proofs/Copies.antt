@@ -6,13 +6,13 @@ use Rattle.std.specs.Map.{lookup}
 use Rattle.std.proofs.lemmas.List.{append-nil, append_assoc, map-append}
 use Rattle.indexmap.specs.IndexMap.{IndexMap, insert_entry}
 use Rattle.td_catalog.specs.code.CatalogViews.{AreEntries, IsBodyOf, base_view, entry_keys}
-use Rattle.td_catalog.specs.Database.{BaseRelvar}
+use Rattle.td_catalog.specs.model.Database.{BaseRelvar}
 use Rattle.td_catalog.specs.declared.entry.BaseEntry.{BaseEntry}
 use Rattle.td_catalog.proofs.ByPlace.{apart}
 use Rattle.td_catalog.proofs.Rows.{known, view_with}
-use Rattle.td_types.specs.Headings.{are_distinct}
-use Rattle.td_types.specs.Types.{Heading, same_name}
-use Rattle.td_value.specs.Values.{Relation}
+use Rattle.td_types.specs.model.Headings.{are_distinct}
+use Rattle.td_types.specs.model.Types.{Heading, same_name}
+use Rattle.td_value.specs.model.Values.{Relation}
 
 module _ {E X : Type 0} (view : List ℕ × E → X) (name_of : X → List ℕ) (named : (row : List ℕ × E) → name_of (view row) ≡ row.0) where
   -- the rows that are copied and those that are left are seen as these, of which no two have one name

@@ -4,10 +4,10 @@ use Rattle.std.specs.Prelude.{is_some, not}
 use Rattle.std.specs.Cmp.Lexicographic.{same_text}
 use Rattle.std.specs.Map.{lookup, remove_entry}
 use Rattle.td_catalog.specs.code.CatalogViews.{AreEntries, IsCatalog, Rows, base_view, constraint_view, database_view, virtual_view}
-use Rattle.td_catalog.specs.Database.{BaseRelvar, NamedConstraint, VirtualRelvar, without_constraint, without_relvar}
-use Rattle.td_catalog.specs.TypedDatabases.{IsTyped}
-use Rattle.td_catalog.specs.TypedDatabaseLaws.{DropsKeepTyped}
-use Rattle.td_catalog.specs.Mentioned.{is_relvar_in_use, is_type_in_use}
+use Rattle.td_catalog.specs.model.Database.{BaseRelvar, NamedConstraint, VirtualRelvar, without_constraint, without_relvar}
+use Rattle.td_catalog.specs.model.TypedDatabases.{IsTyped}
+use Rattle.td_catalog.specs.laws.TypedDatabaseLaws.{DropsKeepTyped}
+use Rattle.td_catalog.specs.model.Mentioned.{is_relvar_in_use, is_type_in_use}
 use Rattle.td_catalog.specs.declared.entry.BaseEntry.{BaseEntry}
 use Rattle.td_catalog.specs.declared.entry.VirtualEntry.{VirtualEntry}
 use Rattle.td_catalog.proofs.Changes.{with_base_rows, with_constraint_rows, with_types, with_virtual_rows}
@@ -15,11 +15,11 @@ use Rattle.td_catalog.proofs.TypedDrops.{typed_without_constraint, typed_without
 use Rattle.td_catalog.proofs.TypedTypeDrops.{typed_without_type}
 use Rattle.td_catalog.proofs.Lists.{both, neither, not_true}
 use Rattle.td_catalog.proofs.Rows.{has_append, known, removed}
-use Rattle.td_types.specs.Headings.{are_distinct, has_name}
-use Rattle.td_types.specs.NamedTypes.{without_declared}
-use Rattle.td_types.specs.TypeLists.{DeclaredType}
-use Rattle.td_types.specs.Types.{same_name}
-use Rattle.td_value.specs.Values.{Relation}
+use Rattle.td_types.specs.model.Headings.{are_distinct, has_name}
+use Rattle.td_types.specs.model.NamedTypes.{without_declared}
+use Rattle.td_types.specs.model.TypeLists.{DeclaredType}
+use Rattle.td_types.specs.model.Types.{same_name}
+use Rattle.td_value.specs.model.Values.{Relation}
 
 -- where no row has the name, none is taken out
 nothing_removed : {E : Type 0} (name : List ℕ) (rows : List (List ℕ × E)) → is_some (lookup (same_name name) rows) ≡ false → remove_entry (same_name name) rows ≡ rows

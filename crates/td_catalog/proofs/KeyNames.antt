@@ -4,10 +4,10 @@ use Rattle.std.specs.Prelude.{if◌then◌else◌}
 use Rattle.std.specs.List.{filter, slice_get}
 use Rattle.std.proofs.lemmas.List.{append-nil, map-append}
 use Rattle.std.proofs.lemmas.List.Elements.{filter-append}
-use Rattle.td_catalog.specs.Dumps.{ordered_names}
+use Rattle.td_catalog.specs.model.Dumps.{ordered_names}
 use Rattle.td_catalog.proofs.ByPlace.{one_more_taken}
-use Rattle.td_types.specs.Headings.{has_name}
-use Rattle.td_types.specs.Types.{Attribute, Heading, attribute_names}
+use Rattle.td_types.specs.model.Headings.{has_name}
+use Rattle.td_types.specs.model.Types.{Attribute, Heading, attribute_names}
 
 module _ (h : Heading) (names : List (List ℕ)) (i : ℕ) (a : Attribute) (at : Some a ≡ slice_get h i) where
   -- the name of the next attribute comes behind those that are found where the key has it

@@ -3,15 +3,15 @@ use Rattle.std.proofs.Common.{◌≡◌, ◌∷◌, ◌++◌, ◌∙◌, ℕ, Bo
 use Rattle.std.specs.Prelude.{if◌then◌else◌, is_some}
 use Rattle.std.specs.Cmp.Lexicographic.{same_text}
 use Rattle.std.specs.Set.{remove_key}
-use Rattle.td_check.specs.Scopes.{KnownRelvar, Scope, known_relvar, relvar_in}
-use Rattle.td_check.specs.StaticLaws.{AgreeOn, UsersAllIn, UsersIn}
-use Rattle.td_check.specs.StaticTypes.{type_of}
+use Rattle.td_check.specs.model.Scopes.{KnownRelvar, Scope, known_relvar, relvar_in}
+use Rattle.td_check.specs.laws.StaticLaws.{AgreeOn, UsersAllIn, UsersIn}
+use Rattle.td_check.specs.model.StaticTypes.{type_of}
 use Rattle.td_check.proofs.StaticLaws.{depends}
-use Rattle.td_tree.specs.Outcomes.{Valued}
-use Rattle.td_tree.specs.Trees.{Tree}
-use Rattle.td_types.specs.Headings.{has_name}
-use Rattle.td_types.specs.TypeLists.{declared_at}
-use Rattle.td_types.specs.Types.{Attrs, Type', attr, boolean, char, integer, no_attrs, pack, relation, same_name, tuple, user}
+use Rattle.td_tree.specs.model.Outcomes.{Valued}
+use Rattle.td_tree.specs.model.Trees.{Tree}
+use Rattle.td_types.specs.model.Headings.{has_name}
+use Rattle.td_types.specs.model.TypeLists.{declared_at}
+use Rattle.td_types.specs.model.Types.{Attrs, Type', attr, boolean, char, integer, no_attrs, pack, relation, same_name, tuple, user}
 
 -- the name of a relvar that is found is among the names
 pub found_named : (n : List ℕ) (rs : List KnownRelvar) (q : KnownRelvar) → relvar_in n rs ≡ Some q → has_name n (map (λ (r : KnownRelvar). r.name) rs) ≡ true

@@ -2,9 +2,9 @@
 use Rattle.std.proofs.Common.{◌≡◌, ◌∷◌, ◌++◌, ℕ, suc, Bool, true, false, Contains, List, [], ap, arith, cond, refl, subst, sym}
 use Rattle.std.specs.Prelude.{◌||◌}
 use Rattle.std.proofs.lemmas.List.{append_assoc}
-use Rattle.td_types.specs.NamedTypes.{any_names_user, is_component, is_made_of, without_declared}
-use Rattle.td_types.specs.TypeLists.{AreDeclared, DeclaredType, IsKnown, is_declared}
-use Rattle.td_types.specs.Types.{Attribute, pack, same_name}
+use Rattle.td_types.specs.model.NamedTypes.{any_names_user, is_component, is_made_of, without_declared}
+use Rattle.td_types.specs.model.TypeLists.{AreDeclared, DeclaredType, IsKnown, is_declared}
+use Rattle.td_types.specs.model.Types.{Attribute, pack, same_name}
 use Rattle.td_types.proofs.DeclaredTypes.{AreDeclared-front}
 use Rattle.td_types.proofs.RemovedTypes.{names_user-known, removed_is_gone}
 

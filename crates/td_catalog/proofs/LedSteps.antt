@@ -6,18 +6,18 @@ use Rattle.std.specs.Map.{keys_of, lookup, lookup_key, remove_entry}
 use Rattle.std.proofs.lemmas.List.{length-append, map-append, take-append-le, take_all}
 use Rattle.indexmap.specs.Layout.{set_value_at}
 use Rattle.td_catalog.specs.code.CatalogViews.{Rows, constraint_view, virtual_view}
-use Rattle.td_catalog.specs.code.Histories.{Held, HeldBase, held_base, held_view, latest, went_back, with_body_back, with_held_bases, with_held_constraints, with_held_types, with_held_virtuals, without_last}
+use Rattle.td_catalog.specs.code.Histories.{HeldTables, HeldBase, held_base, held_view, latest, went_back, with_body_back, with_held_bases, with_held_constraints, with_held_types, with_held_virtuals, without_last}
 use Rattle.td_catalog.specs.declared.entry.BaseEntry.{BaseEntry}
 use Rattle.td_catalog.specs.declared.entry.ConstraintEntry.{ConstraintEntry}
 use Rattle.td_catalog.specs.declared.entry.VirtualEntry.{VirtualEntry}
 use Rattle.td_catalog.specs.declared.history.Step.TheVariants.{TypeAdded, BaseAdded, VirtualAdded, ConstraintAdded, BaseDropped, VirtualDropped, ConstraintDropped, BodyChanged}
 use Rattle.td_catalog.proofs.Changes.{with_base_rows, with_constraint_rows, with_types, with_virtual_rows}
 use Rattle.td_catalog.proofs.Steps.{Leads}
-use Rattle.td_types.specs.NamedTypes.{without_declared}
-use Rattle.td_types.specs.TypeLists.{DeclaredType, is_declared}
-use Rattle.td_types.specs.Types.{Heading, same_name}
+use Rattle.td_types.specs.model.NamedTypes.{without_declared}
+use Rattle.td_types.specs.model.TypeLists.{DeclaredType, is_declared}
+use Rattle.td_types.specs.model.Types.{Heading, same_name}
 use Rattle.td_types.proofs.HeadingLaws.{same_name-flips, same_name-itself}
-use Rattle.td_value.specs.Values.{Relation}
+use Rattle.td_value.specs.model.Values.{Relation}
 
 -- ---- the last of a list
 
@@ -221,7 +221,7 @@ without_added name (e ∷ ds) d none is = by_test (same_name e.name name) refl (
     by_test false same rest = ap (λ es. e ∷ es) (rest (rw same at none) is)
 
 module _ {B : Type 0} (relation : B → Relation) (keys : B → List (List (List ℕ))) (kept : B → List Relation) (rows : Rows B) where
-  abbrev held : Held
+  abbrev held : HeldTables
   held = held_view relation keys kept rows
 
   pub type_added : (name : List ℕ) (types : List DeclaredType) (d : DeclaredType) → types ≡ rows.types ++ (d ∷ []) → d.name ≡ name → is_declared name rows.types ≡ false

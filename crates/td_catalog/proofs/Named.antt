@@ -7,11 +7,11 @@ use Rattle.std.specs.Option.{option_to_list}
 use Rattle.std.specs.Set.{remove_key}
 use Rattle.std.proofs.lemmas.List.{map-append}
 use Rattle.td_catalog.specs.code.CatalogViews.{AreEntries, Known, Rows, base_heading, base_view, constraint_view, database_view, known_rows, virtual_heading, virtual_view}
-use Rattle.td_catalog.specs.Database.{BaseRelvar, Database, NamedConstraint, VirtualRelvar, database_scope, known_base, known_virtual, with_virtuals}
+use Rattle.td_catalog.specs.model.Database.{BaseRelvar, Database, NamedConstraint, VirtualRelvar, database_scope, known_base, known_virtual, with_virtuals}
 use Rattle.td_check.specs.code.LentScopes.{known_as}
-use Rattle.td_check.specs.Scopes.{KnownRelvar, Scope}
+use Rattle.td_check.specs.model.Scopes.{KnownRelvar, Scope}
 use Rattle.td_check.specs.declared.scope.Kind.TheVariants as kinds
-use Rattle.td_value.specs.Values.{Relation}
+use Rattle.td_value.specs.model.Values.{Relation}
 use Rattle.td_catalog.specs.code.Histories.{IsOwnStep}
 use Rattle.td_catalog.specs.declared.entry.BaseEntry.{BaseEntry}
 use Rattle.td_catalog.specs.declared.entry.ConstraintEntry.{ConstraintEntry}
@@ -21,9 +21,9 @@ use Rattle.td_catalog.proofs.LedSteps.{view_added, without_last_push}
 use Rattle.td_catalog.proofs.Lists.{all_push, both, neither, not_true}
 use Rattle.td_catalog.proofs.PutBack.{view_inserted}
 use Rattle.td_catalog.proofs.Steps.{all_but_last, all_last}
-use Rattle.td_types.specs.Headings.{are_distinct, has_name}
-use Rattle.td_types.specs.TypeLists.{DeclaredType}
-use Rattle.td_types.specs.Types.{Heading, same_name}
+use Rattle.td_types.specs.model.Headings.{are_distinct, has_name}
+use Rattle.td_types.specs.model.TypeLists.{DeclaredType}
+use Rattle.td_types.specs.model.Types.{Heading, same_name}
 
 abbrev pub with_known_bases : List (List ℕ × Heading) → Known → Known
 with_known_bases bases known = record { bases = bases; virtuals = known.virtuals; constraints = known.constraints }

@@ -5,11 +5,11 @@ use Rattle.std.specs.List.{position_or_len, prefix_len, slice_get}
 use Rattle.std.specs.Map.{keys_of}
 use Rattle.indexmap.specs.Layout.{set_value_at}
 use Rattle.td_catalog.specs.code.CatalogViews.{AreEntries, IsEntry, base_view}
-use Rattle.td_catalog.specs.Database.{base_among, with_relation}
+use Rattle.td_catalog.specs.model.Database.{base_among, with_relation}
 use Rattle.td_catalog.specs.declared.entry.BaseEntry.{BaseEntry}
-use Rattle.td_types.specs.Types.{same_name}
+use Rattle.td_types.specs.model.Types.{same_name}
 use Rattle.td_types.proofs.HeadingLaws.{same_name-flips}
-use Rattle.td_value.specs.Values.{Relation}
+use Rattle.td_value.specs.model.Values.{Relation}
 
 module _ {B : Type 0} (relation : B → Relation) (keys : B → List (List (List ℕ))) where
   -- the entry with another body

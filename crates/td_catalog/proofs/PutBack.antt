@@ -10,17 +10,17 @@ use Rattle.std.proofs.lemmas.List.{drop_all, take_all}
 use Rattle.indexmap.specs.IndexMap.{IndexMap, insert_entry, insert_index, move_index}
 use Rattle.indexmap.proofs.MoveLemmas.{push_moved}
 use Rattle.td_catalog.specs.code.CatalogViews.{Rows, constraint_view, virtual_view}
-use Rattle.td_catalog.specs.Database.{BaseRelvar, NamedConstraint, VirtualRelvar}
+use Rattle.td_catalog.specs.model.Database.{BaseRelvar, NamedConstraint, VirtualRelvar}
 use Rattle.td_catalog.specs.code.Histories.{HeldBase, IsStage, held_base, held_view, with_held_bases, with_held_constraints, with_held_virtuals}
 use Rattle.td_catalog.specs.declared.entry.BaseEntry.{BaseEntry}
 use Rattle.td_catalog.specs.declared.entry.ConstraintEntry.{ConstraintEntry}
 use Rattle.td_catalog.specs.declared.entry.VirtualEntry.{VirtualEntry}
 use Rattle.td_catalog.proofs.Lists.{both, distinct_behind, distinct_front, neither, not_true}
 use Rattle.td_catalog.proofs.Rows.{known, rows_with}
-use Rattle.td_types.specs.Headings.{are_distinct, has_name}
-use Rattle.td_types.specs.Types.{same_name}
+use Rattle.td_types.specs.model.Headings.{are_distinct, has_name}
+use Rattle.td_types.specs.model.Types.{same_name}
 use Rattle.td_types.proofs.HeadingLaws.{same_name-itself}
-use Rattle.td_value.specs.Values.{Relation}
+use Rattle.td_value.specs.model.Values.{Relation}
 
 -- ---- where they stand
 

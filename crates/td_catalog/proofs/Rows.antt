@@ -9,12 +9,12 @@ use Rattle.std.specs.Set.{remove_key}
 use Rattle.std.proofs.lemmas.List.{map-append}
 use Rattle.indexmap.specs.IndexMap.{IndexMap, insert_entry}
 use Rattle.indexmap.proofs.CallerLemmas.{insert_entry-new}
-use Rattle.td_check.specs.StatementTypes.{holds_or}
-use Rattle.td_tree.specs.Outcomes.{Valued, named_cause}
+use Rattle.td_check.specs.model.StatementTypes.{holds_or}
+use Rattle.td_tree.specs.model.Outcomes.{Valued, named_cause}
 use Rattle.td_tree.specs.declared.cause.Cause.{Cause}
 use Rattle.td_tree.specs.declared.cause.Cause.TheVariants as causes
-use Rattle.td_types.specs.Headings.{has_name}
-use Rattle.td_types.specs.Types.{same_name}
+use Rattle.td_types.specs.model.Headings.{has_name}
+use Rattle.td_types.specs.model.Types.{same_name}
 use Rattle.td_types.proofs.HeadingLaws.{same_name-flips}
 
 pub no_row : {X : Type 0} (o : Option X) → is_some o ≡ false → o ≡ None

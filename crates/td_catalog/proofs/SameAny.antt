@@ -4,8 +4,8 @@ use Rattle.std.specs.Cmp.Lexicographic.{same_text}
 use Rattle.std.specs.List.{list_any}
 use Rattle.std.specs.Prelude.{◌||◌}
 use Rattle.td_types.proofs.HeadingLaws.{same_name-itself}
-use Rattle.td_types.specs.Headings.{has_name}
-use Rattle.td_types.specs.Types.{same_name}
+use Rattle.td_types.specs.model.Headings.{has_name}
+use Rattle.td_types.specs.model.Types.{same_name}
 
 module _ (test : List ℕ → Bool) where
   either : (b c : Bool) → c ≡ true → (b || c) ≡ true

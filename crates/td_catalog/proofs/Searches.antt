@@ -1,20 +1,20 @@
 -- What is answered of an expression in which a name is looked for.
 use Rattle.std.proofs.Common.{◌≡◌, ◌∙◌, ℕ, Bool, true, false, List, None, Some, Result, ap, refl, subst, sym, true≢false}
 use Rattle.std.specs.Result.{IfOk}
-use Rattle.td_catalog.specs.Mentioned.{condition_mentions_type, tree_mentions_relvar, tree_mentions_type}
+use Rattle.td_catalog.specs.model.Mentioned.{condition_mentions_type, tree_mentions_relvar, tree_mentions_type}
 use Rattle.td_check.specs.code.CheckViews.{Names}
-use Rattle.td_check.specs.Mentions.{mentions_of, name_set, relvars_in, types_in}
-use Rattle.td_check.specs.Scopes.{Scope, alone_with, entered_with, scope_of}
-use Rattle.td_check.specs.StaticTypes.{type_of}
+use Rattle.td_check.specs.model.Mentions.{mentions_of, name_set, relvars_in, types_in}
+use Rattle.td_check.specs.model.Scopes.{Scope, alone_with, entered_with, scope_of}
+use Rattle.td_check.specs.model.StaticTypes.{type_of}
 use Rattle.td_check.proofs.NameSets.{names_are_a_set}
 use Rattle.td_check.proofs.WrittenNames.{relvars_are_named}
-use Rattle.td_check.specs.WrittenNames.{names_in}
+use Rattle.td_check.specs.laws.WrittenNames.{names_in}
 use Rattle.td_tree.specs.declared.cause.Cause.{Cause}
-use Rattle.td_tree.specs.Outcomes.{Valued, named_cause, with_value}
-use Rattle.td_tree.specs.Trees.{Tree}
-use Rattle.td_types.specs.Headings.{has_name, heading_from}
-use Rattle.td_types.specs.TypeLists.{DeclaredType}
-use Rattle.td_types.specs.Types.{Type'}
+use Rattle.td_tree.specs.model.Outcomes.{Valued, named_cause, with_value}
+use Rattle.td_tree.specs.model.Trees.{Tree}
+use Rattle.td_types.specs.model.Headings.{has_name, heading_from}
+use Rattle.td_types.specs.model.TypeLists.{DeclaredType}
+use Rattle.td_types.specs.model.Types.{Type'}
 use Rattle.td_types.proofs.NameTests.{name_tests_tell}
 use Rattle.td_types.proofs.OutcomeLaws.{valued_is}
 

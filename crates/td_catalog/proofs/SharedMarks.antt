@@ -6,8 +6,8 @@ use Rattle.std.specs.Int.{bit_at}
 use Rattle.std.specs.List.{list_any}
 use Rattle.td_catalog.proofs.SameAny.{any_found}
 use Rattle.td_catalog.specs.code.NameMarks.{bit_of, name_mark, name_marks}
-use Rattle.td_types.specs.Headings.{has_name}
-use Rattle.td_types.specs.Types.{same_name}
+use Rattle.td_types.specs.model.Headings.{has_name}
+use Rattle.td_types.specs.model.Types.{same_name}
 
 set_left : (a b : ℕ) → a ≡ 1 → b < 2 → max a b ≡ 1
 set_left a b e lt = omega arith

@@ -5,15 +5,15 @@ use Rattle.std.specs.List.{AllByRecursion}
 use Rattle.std.proofs.lemmas.List.{length-append, length-map, map-append, nil_from_length}
 use Rattle.std.proofs.lemmas.List.Sums.{fold_push, sum_by-append}
 use Rattle.td_catalog.specs.code.CatalogViews.{AreEntries, IsBodyOf, IsCatalog, Rows, base_view, database_view, known_of, known_rows, rows_of}
-use Rattle.td_catalog.specs.Database.{Database}
-use Rattle.td_catalog.specs.code.Histories.{AreKept, HasRoom, Held, HeldBase, IsHistory, IsStage, UsesRoomOf, before, database_of, dropped_in, held_base, held_view, history_view, is_dropped, kept_before, kept_with}
-use Rattle.td_catalog.specs.KeptDatabases.{CatalogView, advanced_view, settled_view, stages}
-use Rattle.td_catalog.specs.TypedDatabases.{IsTyped}
+use Rattle.td_catalog.specs.model.Database.{Database}
+use Rattle.td_catalog.specs.code.Histories.{AreKept, HasRoom, HeldTables, HeldBase, IsHistory, IsStage, UsesRoomOf, before, database_of, dropped_in, held_base, held_view, history_view, is_dropped, kept_before, kept_with}
+use Rattle.td_catalog.specs.code.KeptDatabases.{CatalogView, advanced_view, settled_view, stages}
+use Rattle.td_catalog.specs.model.TypedDatabases.{IsTyped}
 use Rattle.td_catalog.specs.declared.entry.BaseEntry.{BaseEntry}
 use Rattle.td_catalog.specs.declared.history.Step.{Step}
 use Rattle.td_catalog.specs.declared.tables.Tables.{Tables}
 use Rattle.td_catalog.proofs.Lists.{all_push}
-use Rattle.td_value.specs.Values.{Relation}
+use Rattle.td_value.specs.model.Values.{Relation}
 
 -- what holds of a list with one more at its end
 pub all_but_last : {A : Type 0} (P : A → Type 0) (xs : List A) (x : A) → AllByRecursion P (xs ++ (x ∷ [])) → AllByRecursion P xs
@@ -54,17 +54,17 @@ module _ {B : Type 0} (relation : B → Relation) (keys : B → List (List (List
 
   -- ---- one more step
 
-  pub kept_push : (steps : List (Step B)) (step : Step B) (held : Held)
+  pub kept_push : (steps : List (Step B)) (step : Step B) (held : HeldTables)
       → kept_before relation keys kept (steps ++ (step ∷ [])) held ≡ kept_before relation keys kept steps (before relation keys kept step held) ++ (before relation keys kept step held ∷ [])
   kept_push steps step held = ap (λ f. f held) (fold_push (kept_with relation keys kept) (λ _. []) steps step)
 
   -- a step that led from the one to the other keeps the one
-  kept_step : (steps : List (Step B)) (step : Step B) (old new : Held) → before relation keys kept step new ≡ old
+  kept_step : (steps : List (Step B)) (step : Step B) (old new : HeldTables) → before relation keys kept step new ≡ old
       → kept_before relation keys kept (steps ++ (step ∷ [])) new ≡ kept_before relation keys kept steps old ++ (old ∷ [])
   kept_step steps step old new back = kept_push steps step new ∙ ap (λ h. kept_before relation keys kept steps h ++ (h ∷ [])) back
 
   -- as many are kept as there are steps
-  counted_from : (f : Held → List Held) (n : ℕ) (steps : List (Step B)) (held : Held) → ((h : Held) → length (f h) ≡ n)
+  counted_from : (f : HeldTables → List HeldTables) (n : ℕ) (steps : List (Step B)) (held : HeldTables) → ((h : HeldTables) → length (f h) ≡ n)
       → length (fold (kept_with relation keys kept) f steps held) ≡ n + length steps
   counted_from f n [] held is = is held ∙ omega arith
   counted_from f n (step ∷ steps) held is =
@@ -72,7 +72,7 @@ module _ {B : Type 0} (relation : B → Relation) (keys : B → List (List (List
       (λ h. length-append (f (before relation keys kept step h)) (before relation keys kept step h ∷ []) ∙ ap (λ m. m + 1) (is (before relation keys kept step h))) in
       omega (arith, more)
 
-  pub kept_counted : (steps : List (Step B)) (held : Held) → length (kept_before relation keys kept steps held) ≡ length steps
+  pub kept_counted : (steps : List (Step B)) (held : HeldTables) → length (kept_before relation keys kept steps held) ≡ length steps
   kept_counted steps held =
       let counted = counted_from (λ _. []) 0 steps held (λ _. refl) in
       omega (arith, counted)
@@ -107,7 +107,7 @@ module _ {B : Type 0} (relation : B → Relation) (keys : B → List (List (List
   -- ---- a step taken back
 
   module _ (rows others : Rows B) (steps next : List (Step B)) (step : Step B) (is : next ≡ steps ++ (step ∷ [])) (h : IsHistory relation keys kept others next) where
-    abbrev held_then : Held
+    abbrev held_then : HeldTables
     held_then = before relation keys kept step (held_view relation keys kept others)
 
     all_stages : AllByRecursion IsStage (kept_before relation keys kept steps held_then ++ (held_then ∷ []))

@@ -3,27 +3,27 @@ use Rattle.std.proofs.Common.{◌≡◌, ◌∷◌, ◌++◌, ◌∙◌, ℕ, Bo
 use Rattle.std.specs.Prelude.{if◌then◌else◌}
 use Rattle.std.specs.List.{AllByRecursion}
 use Rattle.std.proofs.lemmas.List.{append_assoc, append-nil, map-append}
-use Rattle.td_catalog.specs.Database.{BaseRelvar, Database, NamedConstraint, VirtualRelvar, base_among, base_named, base_relvar, constraint_names, database_scope, empty_database, known_base, known_virtual, knows_constraint, knows_relvar, relvar_names, with_base, with_body, with_constraint, with_declared, with_relation, with_virtual, with_virtuals}
-use Rattle.td_catalog.specs.TypedDatabases.{AreTyped, IsConstrained, IsTyped, IsTypedBase, IsTypedConstraint, IsTypedVirtual}
-use Rattle.td_catalog.specs.TypedDatabaseLaws.{BaseRelvarsKeepTyped, BodiesKeepTyped, ConstraintsKeepTyped, TypesKeepTyped, VirtualRelvarsKeepTyped}
-use Rattle.td_catalog.specs.WrittenDefinitions.{ConstraintIsWritten}
+use Rattle.td_catalog.specs.model.Database.{BaseRelvar, Database, NamedConstraint, VirtualRelvar, base_among, base_named, base_relvar, constraint_names, database_scope, empty_database, known_base, known_virtual, knows_constraint, knows_relvar, relvar_names, with_base, with_body, with_constraint, with_declared, with_relation, with_virtual, with_virtuals}
+use Rattle.td_catalog.specs.model.TypedDatabases.{AreTyped, IsConstrained, IsTyped, IsTypedBase, IsTypedConstraint, IsTypedVirtual}
+use Rattle.td_catalog.specs.laws.TypedDatabaseLaws.{BaseRelvarsKeepTyped, BodiesKeepTyped, ConstraintsKeepTyped, TypesKeepTyped, VirtualRelvarsKeepTyped}
+use Rattle.td_catalog.specs.model.WrittenDefinitions.{ConstraintIsWritten}
 use Rattle.td_catalog.proofs.KnownRelvars.{found_between, types_stay}
 use Rattle.td_catalog.proofs.Lists.{all_between, all_kept, all_push, distinct_between, each_after_none, each_after_push, each_kept, has_front, not_true}
-use Rattle.td_check.specs.Scopes.{KnownRelvar, Scope, known_relvar, relvar_in}
-use Rattle.td_check.specs.StaticTypes.{type_of}
+use Rattle.td_check.specs.model.Scopes.{KnownRelvar, Scope, known_relvar, relvar_in}
+use Rattle.td_check.specs.model.StaticTypes.{type_of}
 use Rattle.td_check.proofs.StaticLaws.{more_changes_nothing}
-use Rattle.td_tree.specs.Names.{IsName}
-use Rattle.td_tree.specs.Outcomes.{Valued}
-use Rattle.td_tree.specs.Trees.{Tree}
-use Rattle.td_tree.specs.WrittenTrees.{IsWritten}
-use Rattle.td_types.specs.Headings.{are_distinct, has_name}
-use Rattle.td_types.specs.TypeLists.{AreDeclared, AreKnown, DeclaredType}
-use Rattle.td_types.specs.Types.{Heading, Type', pack, same_name}
-use Rattle.td_types.specs.Types as types
+use Rattle.td_tree.specs.model.Names.{IsName}
+use Rattle.td_tree.specs.model.Outcomes.{Valued}
+use Rattle.td_tree.specs.model.Trees.{Tree}
+use Rattle.td_tree.specs.model.WrittenTrees.{IsWritten}
+use Rattle.td_types.specs.model.Headings.{are_distinct, has_name}
+use Rattle.td_types.specs.model.TypeLists.{AreDeclared, AreKnown, DeclaredType}
+use Rattle.td_types.specs.model.Types.{Heading, Type', pack, same_name}
+use Rattle.td_types.specs.model.Types as types
 use Rattle.td_types.proofs.DeclaredTypes.{AreDeclared-none, AreDeclared-push}
 use Rattle.td_types.proofs.KnownTypes.{all_known_more}
-use Rattle.td_value.specs.Values.{IsRelation, Relation, pack_rows}
-use Rattle.td_value.specs.Values as values
+use Rattle.td_value.specs.model.Values.{IsRelation, Relation, pack_rows}
+use Rattle.td_value.specs.model.Values as values
 use Rattle.td_value.proofs.KnownValues.{kept}
 
 pub typed_empty : IsTyped empty_database

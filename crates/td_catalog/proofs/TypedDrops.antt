@@ -4,23 +4,23 @@ use Rattle.std.specs.Prelude.{◌&&◌, ◌||◌, if◌then◌else◌, not}
 use Rattle.std.specs.List.{AllByRecursion, Contains, list_any}
 use Rattle.std.specs.Set.{remove_key}
 use Rattle.std.proofs.lemmas.List.{append-nil, append_assoc, map-append}
-use Rattle.td_catalog.specs.Database.{BaseRelvar, Database, NamedConstraint, VirtualRelvar, constraint_names, database_scope, known_base, known_virtual, relvar_names, with_virtuals, without_constraint, without_relvar}
-use Rattle.td_catalog.specs.TypedDatabases.{IsTypedBase, IsTypedConstraint, IsTyped, IsTypedVirtual}
-use Rattle.td_catalog.specs.Mentioned.{is_relvar_in_use, tree_mentions_relvar}
+use Rattle.td_catalog.specs.model.Database.{BaseRelvar, Database, NamedConstraint, VirtualRelvar, constraint_names, database_scope, known_base, known_virtual, relvar_names, with_virtuals, without_constraint, without_relvar}
+use Rattle.td_catalog.specs.model.TypedDatabases.{IsTypedBase, IsTypedConstraint, IsTyped, IsTypedVirtual}
+use Rattle.td_catalog.specs.model.Mentioned.{is_relvar_in_use, tree_mentions_relvar}
 use Rattle.td_catalog.proofs.KnownRelvars.{found_removed, types_stay}
 use Rattle.td_catalog.proofs.Lists.{all_kept, all_kept_in, all_removed, distinct_removed, each_kept, each_removed, has_removed, neither, not_true}
 use Rattle.td_catalog.proofs.Rows.{has_append}
-use Rattle.td_check.specs.Mentions.{relvars_in}
-use Rattle.td_check.specs.Scopes.{relvar_in}
-use Rattle.td_check.specs.StaticLaws.{HasMore, LacksRelvar}
-use Rattle.td_check.specs.StaticTypes.{type_of}
+use Rattle.td_check.specs.model.Mentions.{relvars_in}
+use Rattle.td_check.specs.model.Scopes.{relvar_in}
+use Rattle.td_check.specs.laws.StaticLaws.{HasMore, LacksRelvar}
+use Rattle.td_check.specs.model.StaticTypes.{type_of}
 use Rattle.td_check.proofs.StaticLaws.{drops_change_nothing, more_changes_nothing}
-use Rattle.td_tree.specs.Names.{IsName}
-use Rattle.td_tree.specs.Outcomes.{Valued}
-use Rattle.td_tree.specs.Trees.{Tree}
-use Rattle.td_tree.specs.WrittenTrees.{IsWritten}
-use Rattle.td_types.specs.Headings.{are_distinct, has_name}
-use Rattle.td_types.specs.Types.{Type', boolean, pack, relation, same_name}
+use Rattle.td_tree.specs.model.Names.{IsName}
+use Rattle.td_tree.specs.model.Outcomes.{Valued}
+use Rattle.td_tree.specs.model.Trees.{Tree}
+use Rattle.td_tree.specs.model.WrittenTrees.{IsWritten}
+use Rattle.td_types.specs.model.Headings.{are_distinct, has_name}
+use Rattle.td_types.specs.model.Types.{Type', boolean, pack, relation, same_name}
 use Rattle.td_types.proofs.NameTests.{name_tests_tell}
 
 -- ---- the names that are left

@@ -5,31 +5,31 @@ use Rattle.std.specs.Cmp.Lexicographic.{same_text}
 use Rattle.std.specs.List.{AllByRecursion, Contains, list_any}
 use Rattle.std.proofs.lemmas.List.{append-nil, append_assoc}
 use Rattle.std.proofs.lemmas.List.Folds.{list_any-append}
-use Rattle.td_catalog.specs.Database.{BaseRelvar, Database, NamedConstraint, VirtualRelvar, database_scope, known_base, known_virtual, with_virtuals, without_type}
-use Rattle.td_catalog.specs.WrittenDefinitions.{ConstraintIsWritten}
-use Rattle.td_catalog.specs.TypedDatabases.{IsConstrained, IsTyped, IsTypedBase, IsTypedConstraint, IsTypedVirtual}
-use Rattle.td_catalog.specs.Mentioned.{base_mentions_type, condition_mentions_type, is_type_in_use, tree_mentions_type, type_mentions_type}
+use Rattle.td_catalog.specs.model.Database.{BaseRelvar, Database, NamedConstraint, VirtualRelvar, database_scope, known_base, known_virtual, with_virtuals, without_type}
+use Rattle.td_catalog.specs.model.WrittenDefinitions.{ConstraintIsWritten}
+use Rattle.td_catalog.specs.model.TypedDatabases.{IsConstrained, IsTyped, IsTypedBase, IsTypedConstraint, IsTypedVirtual}
+use Rattle.td_catalog.specs.model.Mentioned.{base_mentions_type, condition_mentions_type, is_type_in_use, tree_mentions_type, type_mentions_type}
 use Rattle.td_catalog.proofs.TypedDrops.{none_of, one_of, uncontained}
 use Rattle.td_catalog.proofs.Lists.{all_kept_in, all_push, each_kept, each_removed, neither, all_removed}
 use Rattle.td_catalog.proofs.ValuesLeft.{not_made, rows_left}
-use Rattle.td_check.specs.Mentions.{types_in}
-use Rattle.td_check.specs.OperatorTypes.{if_type}
-use Rattle.td_check.specs.Scopes.{KnownRelvar, alone_with, known_relvar, relvar_in, scope_of}
-use Rattle.td_check.specs.StatementTypes.{constraint_fits}
-use Rattle.td_check.specs.StaticLaws.{AgreeOn, LacksType, UsersAllIn, UsersIn, is_other}
-use Rattle.td_check.specs.StaticTypes.{type_of}
+use Rattle.td_check.specs.model.Mentions.{types_in}
+use Rattle.td_check.specs.model.OperatorTypes.{if_type}
+use Rattle.td_check.specs.model.Scopes.{KnownRelvar, alone_with, known_relvar, relvar_in, scope_of}
+use Rattle.td_check.specs.model.StatementTypes.{constraint_fits}
+use Rattle.td_check.specs.laws.StaticLaws.{AgreeOn, LacksType, UsersAllIn, UsersIn, is_other}
+use Rattle.td_check.specs.model.StaticTypes.{type_of}
 use Rattle.td_check.proofs.AgreementLaws.{only_one}
 use Rattle.td_check.proofs.StaticLaws.{drops_change_nothing, made_of_mentions}
 use Rattle.td_check.proofs.UserTypeLaws.{users_closed}
-use Rattle.td_tree.specs.Outcomes.{Valued, with_value}
-use Rattle.td_tree.specs.Trees.{Tree}
-use Rattle.td_types.specs.Headings.{heading_from, with_attribute}
-use Rattle.td_types.specs.NamedTypes.{any_names_user, is_component, is_made_of, names_user, without_declared}
-use Rattle.td_types.specs.TypeLists.{DeclaredType}
-use Rattle.td_types.specs.Types.{Attribute, Attrs, Heading, Type', attr, boolean, char, integer, no_attrs, pack, relation, same_name, tuple, user}
+use Rattle.td_tree.specs.model.Outcomes.{Valued, with_value}
+use Rattle.td_tree.specs.model.Trees.{Tree}
+use Rattle.td_types.specs.model.Headings.{heading_from, with_attribute}
+use Rattle.td_types.specs.model.NamedTypes.{any_names_user, is_component, is_made_of, names_user, without_declared}
+use Rattle.td_types.specs.model.TypeLists.{DeclaredType}
+use Rattle.td_types.specs.model.Types.{Attribute, Attrs, Heading, Type', attr, boolean, char, integer, no_attrs, pack, relation, same_name, tuple, user}
 use Rattle.td_types.proofs.OutcomeLaws.{value_of_with}
 use Rattle.td_types.proofs.RemovedTypes.{AreDeclared-without, AreKnown-without, declared_at-without, is_made_of-among}
-use Rattle.td_value.specs.Values.{pack_rows}
+use Rattle.td_value.specs.model.Values.{pack_rows}
 
 -- ---- types in which it does not stand
 

@@ -1,12 +1,12 @@
 -- Values keep their types where a type is removed that theirs are not made of.
 use Rattle.std.proofs.Common.{◌≡◌, ◌∙◌, ◌∷◌, ℕ, Bool, true, false, List, [], Some, refl, subst}
 use Rattle.td_catalog.proofs.Lists.{neither}
-use Rattle.td_types.specs.NamedTypes.{any_names_user, is_component, is_made_of, names_user, without_declared}
-use Rattle.td_types.specs.TypeLists.{DeclaredType, declared_at}
-use Rattle.td_types.specs.Types.{Attribute, Attrs, Type', attr, no_attrs, pack, same_name}
+use Rattle.td_types.specs.model.NamedTypes.{any_names_user, is_component, is_made_of, names_user, without_declared}
+use Rattle.td_types.specs.model.TypeLists.{DeclaredType, declared_at}
+use Rattle.td_types.specs.model.Types.{Attribute, Attrs, Type', attr, no_attrs, pack, same_name}
 use Rattle.td_types.proofs.RemovedTypes.{AreKnown-without, declared_at-without}
-use Rattle.td_value.specs.KnownValues.{AreOfTypes, HasHeading, HasType, HaveHeading}
-use Rattle.td_value.specs.Values.{Fields, Parts, Rows, Val, boolean, char, field, integer, no_fields, no_parts, no_rows, part, relation, row, tuple, user}
+use Rattle.td_value.specs.model.KnownValues.{AreOfTypes, HasHeading, HasType, HaveHeading}
+use Rattle.td_value.specs.model.Values.{Fields, Parts, Rows, Val, boolean, char, field, integer, no_fields, no_parts, no_rows, part, relation, row, tuple, user}
 
 -- a declared type is not made of what none is made of
 pub not_made : (name n : List ℕ) (ds : List DeclaredType) (d : DeclaredType) → is_component name ds ≡ false → declared_at n ds ≡ Some d → is_made_of name d ≡ false

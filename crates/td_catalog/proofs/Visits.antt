@@ -4,29 +4,29 @@ use Rattle.std.specs.Prelude.{◌||◌, ⊤}
 use Rattle.std.specs.List.{AllByRecursion, list_any, slice_get}
 use Rattle.std.proofs.lemmas.List.Folds.{list_any-append}
 use Rattle.td_catalog.specs.code.CatalogViews.{AreEntries, base_view, constraint_view, virtual_view}
-use Rattle.td_catalog.specs.Database.{Database, NamedConstraint, VirtualRelvar, database_scope, with_virtuals}
-use Rattle.td_catalog.specs.TypedDatabases.{IsTypedConstraint, IsTyped}
-use Rattle.td_catalog.specs.Mentioned.{base_mentions_type}
+use Rattle.td_catalog.specs.model.Database.{Database, NamedConstraint, VirtualRelvar, database_scope, with_virtuals}
+use Rattle.td_catalog.specs.model.TypedDatabases.{IsTypedConstraint, IsTyped}
+use Rattle.td_catalog.specs.model.Mentioned.{base_mentions_type}
 use Rattle.td_catalog.specs.declared.entry.BaseEntry.{BaseEntry}
 use Rattle.td_catalog.specs.declared.entry.ConstraintEntry.{ConstraintEntry}
 use Rattle.td_catalog.specs.declared.entry.VirtualEntry.{VirtualEntry}
 use Rattle.td_catalog.proofs.TypedDrops.{earlier_virtuals}
 use Rattle.td_catalog.proofs.Lists.{each_all}
 use Rattle.td_catalog.proofs.ByPlace.{one_more_taken, stands_at}
-use Rattle.td_check.specs.OperatorTypes.{if_type}
-use Rattle.td_check.specs.Scopes.{Scope, alone_with, scope_of}
-use Rattle.td_check.specs.StatementTypes.{constraint_fits}
-use Rattle.td_check.specs.StaticTypes.{type_of}
+use Rattle.td_check.specs.model.OperatorTypes.{if_type}
+use Rattle.td_check.specs.model.Scopes.{Scope, alone_with, scope_of}
+use Rattle.td_check.specs.model.StatementTypes.{constraint_fits}
+use Rattle.td_check.specs.model.StaticTypes.{type_of}
 use Rattle.td_check.proofs.StaticLaws.{more_changes_nothing}
-use Rattle.td_tree.specs.Outcomes.{Valued}
-use Rattle.td_tree.specs.Trees.{Tree}
-use Rattle.td_types.specs.Headings.{are_distinct, heading_from}
-use Rattle.td_types.specs.NamedTypes.{any_names_user}
-use Rattle.td_types.specs.TypeLists.{DeclaredType}
-use Rattle.td_types.specs.Types.{Type', attribute_names, pack}
-use Rattle.td_types.specs.Types as types
+use Rattle.td_tree.specs.model.Outcomes.{Valued}
+use Rattle.td_tree.specs.model.Trees.{Tree}
+use Rattle.td_types.specs.model.Headings.{are_distinct, heading_from}
+use Rattle.td_types.specs.model.NamedTypes.{any_names_user}
+use Rattle.td_types.specs.model.TypeLists.{DeclaredType}
+use Rattle.td_types.specs.model.Types.{Type', attribute_names, pack}
+use Rattle.td_types.specs.model.Types as types
 use Rattle.td_types.proofs.OutcomeLaws.{value_of_with}
-use Rattle.td_value.specs.Values.{Relation}
+use Rattle.td_value.specs.model.Values.{Relation}
 
 module _ {E : Type 0} (P : E → Type 0) (test : E → Bool) where
   -- whether one passes is so of those that are left, of each of which P holds

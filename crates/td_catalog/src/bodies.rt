@@ -1,14 +1,14 @@
 //! Bodies that change.
 ghost use Rattle.std.specs.Prelude.{◌≡◌, ◌∷◌, ◌++◌, [], IfSome, IsSome, OnErr, OnOk};
-ghost use Rattle.td_body.specs.Bodies.{after_change};
+ghost use Rattle.td_body.specs.model.Bodies.{after_change};
 ghost use Rattle.td_catalog.specs.code.CatalogViews.{IsBodyOf, IsCatalog, database_view, known_of};
 ghost use Rattle.td_catalog.specs.code.CatalogViews.{known_rows, rows_of};
-ghost use Rattle.td_catalog.specs.Database.{base_named, with_body};
+ghost use Rattle.td_catalog.specs.model.Database.{base_named, with_body};
 ghost use Rattle.td_catalog.specs.code.Histories.{UsesRoomOf, before, held_view};
-ghost use Rattle.td_catalog.specs.KeptDatabases.{advanced_view, settled_view};
-ghost use Rattle.td_catalog.specs.TypedDatabases.{AreTyped};
+ghost use Rattle.td_catalog.specs.code.KeptDatabases.{advanced_view, settled_view};
+ghost use Rattle.td_catalog.specs.model.TypedDatabases.{AreTyped};
 ghost use Rattle.td_catalog.specs.declared.history.Step.TheVariants as steps;
-ghost use Rattle.td_value.specs.Values.{IsRelation};
+ghost use Rattle.td_value.specs.model.Values.{IsRelation};
 
 use crate::catalog::Catalog;
 use crate::entry::BaseEntry;

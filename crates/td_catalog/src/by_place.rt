@@ -1,7 +1,7 @@
 //! Entries by their places in order of definition.
 ghost use Rattle.std.specs.Prelude.{◌≡◌, length, option_map, slice_get};
 ghost use Rattle.td_catalog.specs.code.CatalogViews.{base_view, virtual_view};
-ghost use Rattle.td_catalog.specs.Database.{named_constraint};
+ghost use Rattle.td_catalog.specs.model.Database.{named_constraint};
 
 use crate::catalog::Catalog;
 use crate::defining::DefiningExpression;

@@ -1,12 +1,12 @@
 //! Declared types, relvars and constraints, looked up by name, with what they were before changes.
 ghost use Rattle.std.specs.Prelude.{◌≡◌, IfSome, option_map, slice_get};
 ghost use Rattle.td_catalog.specs.code.CatalogViews.{IsEntry, base_view, virtual_view};
-ghost use Rattle.td_catalog.specs.Database.{base_named, constraint_named, empty_database};
-ghost use Rattle.td_catalog.specs.Database.{virtual_named};
-ghost use Rattle.td_catalog.specs.KeptDatabases.{settled_view};
-ghost use Rattle.td_catalog.specs.TypedDatabases.{IsTyped};
+ghost use Rattle.td_catalog.specs.model.Database.{base_named, constraint_named, empty_database};
+ghost use Rattle.td_catalog.specs.model.Database.{virtual_named};
+ghost use Rattle.td_catalog.specs.code.KeptDatabases.{settled_view};
+ghost use Rattle.td_catalog.specs.model.TypedDatabases.{IsTyped};
 ghost use Rattle.td_tree.specs.code.TreeViews.{tree_view};
-ghost use Rattle.td_types.specs.TypeLists.{declared_at};
+ghost use Rattle.td_types.specs.model.TypeLists.{declared_at};
 
 use crate::entry::{BaseEntry, VirtualEntry};
 use crate::history::History;
@@ -31,7 +31,7 @@ pub struct Catalog<B: Body> {
 
 impl<B: Body> Model for Catalog<B> {
     ghost use Rattle.td_catalog.specs.code.DatabaseCode.{catalog_code};
-    ghost use Rattle.td_catalog.specs.KeptDatabases.{CatalogView};
+    ghost use Rattle.td_catalog.specs.code.KeptDatabases.{CatalogView};
 
     ghost Value = { CatalogView };
 

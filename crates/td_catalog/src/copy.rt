@@ -1,10 +1,10 @@
 //! Copies of catalogues. They share the bodies as far as these share with their copies, and the
 //! expressions.
 ghost use Rattle.std.specs.Prelude.{◌≡◌, ℕ, IfOk, IsTrue, List, map};
-ghost use Rattle.td_types.specs.Headings.{are_distinct};
+ghost use Rattle.td_types.specs.model.Headings.{are_distinct};
 ghost use Rattle.td_catalog.specs.code.CatalogViews.{AreEntries, base_view, constraint_view};
 ghost use Rattle.td_catalog.specs.code.CatalogViews.{entry_keys, virtual_view};
-ghost use Rattle.td_catalog.specs.KeptDatabases.{settled_view};
+ghost use Rattle.td_catalog.specs.code.KeptDatabases.{settled_view};
 
 use crate::catalog::Catalog;
 use crate::entry::{BaseEntry, ConstraintEntry, VirtualEntry};

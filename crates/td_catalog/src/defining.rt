@@ -1,9 +1,9 @@
 //! The expressions by which virtual relvars and constraints are defined.
 ghost use Rattle.std.specs.Prelude.{◌≡◌, IfOk};
-ghost use Rattle.td_catalog.specs.NamedRelvars.{names_any};
-ghost use Rattle.td_check.specs.WrittenNames.{names_in};
+ghost use Rattle.td_catalog.specs.laws.NamedRelvars.{names_any};
+ghost use Rattle.td_check.specs.laws.WrittenNames.{names_in};
 ghost use Rattle.td_tree.specs.code.TreeViews.{tree_view};
-ghost use Rattle.td_types.specs.Headings.{has_name};
+ghost use Rattle.td_types.specs.model.Headings.{has_name};
 
 use crate::marked_names::MarkedNames;
 use std::alloc::{AllocError, Global};
@@ -23,11 +23,11 @@ pub struct DefiningExpression {
 
 impl Model for DefiningExpression {
     ghost use Rattle.std.specs.Prelude.{◌≡◌};
-    ghost use Rattle.td_check.specs.Mentions.{name_set};
-    ghost use Rattle.td_check.specs.WrittenNames.{names_in};
+    ghost use Rattle.td_check.specs.model.Mentions.{name_set};
+    ghost use Rattle.td_check.specs.laws.WrittenNames.{names_in};
     ghost use Rattle.td_tree.specs.code.TreeCode.{tree_code};
     ghost use Rattle.td_tree.specs.code.TreeViews.{tree_view};
-    ghost use Rattle.td_tree.specs.Trees.{Tree};
+    ghost use Rattle.td_tree.specs.model.Trees.{Tree};
 
     ghost Value = { Tree };
 

@@ -1,11 +1,11 @@
 //! Entries that are taken out. What is defined anew after that stands last.
 ghost use Rattle.std.specs.Prelude.{◌≡◌, OnErr, OnOk, false, map, true};
-ghost use Rattle.td_catalog.specs.Database.{without_constraint, without_relvar, without_type};
-ghost use Rattle.td_catalog.specs.KeptDatabases.{advanced_view};
-ghost use Rattle.td_catalog.specs.Mentioned.{constraint_droppable, is_relvar_in_use};
-ghost use Rattle.td_catalog.specs.Mentioned.{relvar_droppable, type_droppable};
-ghost use Rattle.td_tree.specs.Outcomes.{Answers};
-ghost use Rattle.td_types.specs.Headings.{has_name};
+ghost use Rattle.td_catalog.specs.model.Database.{without_constraint, without_relvar, without_type};
+ghost use Rattle.td_catalog.specs.code.KeptDatabases.{advanced_view};
+ghost use Rattle.td_catalog.specs.model.Mentioned.{constraint_droppable, is_relvar_in_use};
+ghost use Rattle.td_catalog.specs.model.Mentioned.{relvar_droppable, type_droppable};
+ghost use Rattle.td_tree.specs.model.Outcomes.{Answers};
+ghost use Rattle.td_types.specs.model.Headings.{has_name};
 
 use crate::catalog::Catalog;
 use crate::definitions::prepare;

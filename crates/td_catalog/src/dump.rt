@@ -4,17 +4,17 @@ ghost use Rattle.std.specs.Prelude.{◌≡◌, ◌++◌, IfOk, OnOk, codes, fals
 ghost use Rattle.std.specs.List.{flat_map};
 ghost use Rattle.std.specs.String.{string_bytes};
 ghost use Rattle.td_catalog.specs.code.CatalogViews.{virtual_view};
-ghost use Rattle.td_catalog.specs.Database.{base_relvar, named_constraint};
-ghost use Rattle.td_catalog.specs.Dumps.{base_line, condition_text, constraint_line, dump_text};
-ghost use Rattle.td_catalog.specs.Dumps.{key_text, keys_text, line_end, names_text, type_line};
-ghost use Rattle.td_catalog.specs.Dumps.{virtual_line};
-ghost use Rattle.td_tree.specs.Prints.{print};
+ghost use Rattle.td_catalog.specs.model.Database.{base_relvar, named_constraint};
+ghost use Rattle.td_catalog.specs.model.Dumps.{base_line, condition_text, constraint_line};
+ghost use Rattle.td_catalog.specs.model.Dumps.{dump_text, key_text, keys_text, line_end};
+ghost use Rattle.td_catalog.specs.model.Dumps.{names_text, type_line, virtual_line};
+ghost use Rattle.td_tree.specs.model.Prints.{print};
 ghost use Rattle.td_tree.specs.code.TreeViews.{tree_view};
-ghost use Rattle.td_types.specs.Texts.{attributes_text, type_text};
-ghost use Rattle.td_types.specs.TypeLists.{declared_type};
-ghost use Rattle.td_types.specs.Types.{pack, relation};
+ghost use Rattle.td_types.specs.model.Texts.{attributes_text, type_text};
+ghost use Rattle.td_types.specs.model.TypeLists.{declared_type};
+ghost use Rattle.td_types.specs.model.Types.{pack, relation};
 ghost use Rattle.td_types.specs.code.Views.{pairs_view};
-ghost use Rattle.td_value.specs.Literal.{relation_literal};
+ghost use Rattle.td_value.specs.model.Literal.{relation_literal};
 
 use crate::catalog::Catalog;
 use crate::defining::DefiningExpression;

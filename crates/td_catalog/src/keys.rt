@@ -1,6 +1,6 @@
 //! Keys in name order.
 ghost use Rattle.std.specs.Prelude.{◌≡◌, IfOk, map};
-ghost use Rattle.td_catalog.specs.Dumps.{ordered_names};
+ghost use Rattle.td_catalog.specs.model.Dumps.{ordered_names};
 
 use std::alloc::{AllocError, Global};
 use td_tree::name::Name;

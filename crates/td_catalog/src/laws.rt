@@ -1,8 +1,8 @@
 //! What changes of databases are to their callers: each function has its contract alone.
-ghost use Rattle.td_catalog.specs.TypedDatabaseLaws.{BaseRelvarsKeepTyped, BodiesKeepTyped};
-ghost use Rattle.td_catalog.specs.TypedDatabaseLaws.{ConstraintsKeepTyped, DropsKeepTyped};
-ghost use Rattle.td_catalog.specs.TypedDatabaseLaws.{EmptyDatabaseIsTyped, TypesKeepTyped};
-ghost use Rattle.td_catalog.specs.TypedDatabaseLaws.{VirtualRelvarsKeepTyped};
+ghost use Rattle.td_catalog.specs.laws.TypedDatabaseLaws.{BaseRelvarsKeepTyped, BodiesKeepTyped};
+ghost use Rattle.td_catalog.specs.laws.TypedDatabaseLaws.{ConstraintsKeepTyped, DropsKeepTyped};
+ghost use Rattle.td_catalog.specs.laws.TypedDatabaseLaws.{EmptyDatabaseIsTyped, TypesKeepTyped};
+ghost use Rattle.td_catalog.specs.laws.TypedDatabaseLaws.{VirtualRelvarsKeepTyped};
 
 /// A database in which nothing is defined is typed.
 pub fn empty_database_is_typed()

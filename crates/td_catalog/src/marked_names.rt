@@ -2,7 +2,7 @@
 ghost use Rattle.std.specs.Prelude.{◌≡◌, ◌∷◌, ◌++◌, [], OnErr, OnOk, bit_and};
 ghost use Rattle.std.specs.List.{list_any};
 ghost use Rattle.td_catalog.specs.code.NameMarks.{name_mark, name_marks};
-ghost use Rattle.td_types.specs.Headings.{has_name};
+ghost use Rattle.td_types.specs.model.Headings.{has_name};
 
 use std::alloc::AllocError;
 use std::hash::{FoldHasher, Hash, Hasher};

@@ -1,18 +1,18 @@
 //! What the entries of a catalogue mention.
 ghost use Rattle.std.specs.Prelude.{◌≡◌, IfOk, IsTrue, List};
 ghost use Rattle.std.specs.List.{list_any};
-ghost use Rattle.td_catalog.specs.Database.{database_scope};
-ghost use Rattle.td_catalog.specs.Mentioned.{base_mentions_type, condition_mentions_type};
-ghost use Rattle.td_catalog.specs.Mentioned.{is_relvar_in_use, is_type_in_use};
-ghost use Rattle.td_catalog.specs.Mentioned.{type_mentions_type};
+ghost use Rattle.td_catalog.specs.model.Database.{database_scope};
+ghost use Rattle.td_catalog.specs.model.Mentioned.{base_mentions_type, condition_mentions_type};
+ghost use Rattle.td_catalog.specs.model.Mentioned.{is_relvar_in_use, is_type_in_use};
+ghost use Rattle.td_catalog.specs.model.Mentioned.{type_mentions_type};
 ghost use Rattle.td_catalog.specs.code.Sought.{tree_mentions};
-ghost use Rattle.td_check.specs.Scopes.{alone_with, scope_of};
-ghost use Rattle.td_check.specs.StaticTypes.{type_of};
-ghost use Rattle.td_tree.specs.Outcomes.{Valued};
+ghost use Rattle.td_check.specs.model.Scopes.{alone_with, scope_of};
+ghost use Rattle.td_check.specs.model.StaticTypes.{type_of};
+ghost use Rattle.td_tree.specs.model.Outcomes.{Valued};
 ghost use Rattle.td_tree.specs.code.TreeViews.{tree_view};
-ghost use Rattle.td_tree.specs.Trees.{Tree};
-ghost use Rattle.td_types.specs.Headings.{are_distinct, heading_from};
-ghost use Rattle.td_types.specs.Types.{Type', attribute_names};
+ghost use Rattle.td_tree.specs.model.Trees.{Tree};
+ghost use Rattle.td_types.specs.model.Headings.{are_distinct, heading_from};
+ghost use Rattle.td_types.specs.model.Types.{Type', attribute_names};
 ghost use Rattle.td_types.specs.code.Views.{pairs_view};
 
 use crate::catalog::Catalog;

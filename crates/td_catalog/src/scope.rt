@@ -1,8 +1,8 @@
 //! What a catalogue makes known to expressions.
 ghost use Rattle.std.specs.Prelude.{◌≡◌, [], length, option_map, position, slice_get, take};
-ghost use Rattle.td_catalog.specs.Database.{database_scope, with_constraints, with_virtuals};
+ghost use Rattle.td_catalog.specs.model.Database.{database_scope, with_constraints, with_virtuals};
 ghost use Rattle.td_tree.specs.code.TreeViews.{tree_view};
-ghost use Rattle.td_types.specs.Types.{same_name};
+ghost use Rattle.td_types.specs.model.Types.{same_name};
 
 use crate::catalog::Catalog;
 use td_body::body::Body;

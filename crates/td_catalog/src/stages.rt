@@ -1,6 +1,6 @@
 //! Ways back to what a catalogue was.
 ghost use Rattle.std.specs.Prelude.{◌≡◌, ◌+◌, ◌≤◌, [], IsTrue, false, length, take};
-ghost use Rattle.td_catalog.specs.KeptDatabases.{settled_view, stages};
+ghost use Rattle.td_catalog.specs.code.KeptDatabases.{settled_view, stages};
 
 use crate::catalog::Catalog;
 use td_body::body::Body;

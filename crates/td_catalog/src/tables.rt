@@ -11,7 +11,7 @@ ghost use Rattle.td_catalog.specs.code.CatalogViews.{rows_of};
 ghost use Rattle.td_catalog.specs.code.Histories.{HasRoom, IsOwnStep, IsStage, UsesRoomOf, before};
 ghost use Rattle.td_catalog.specs.code.Histories.{dropped_in, held_view};
 ghost use Rattle.td_catalog.specs.declared.history.Step.TheVariants as steps;
-ghost use Rattle.td_types.specs.Types.{same_name};
+ghost use Rattle.td_types.specs.model.Types.{same_name};
 
 use crate::entry::{BaseEntry, ConstraintEntry, VirtualEntry};
 use crate::history::Step;

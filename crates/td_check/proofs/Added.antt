@@ -4,12 +4,12 @@ use Rattle.std.specs.Global.{Vec}
 use Rattle.td_check.specs.code.CheckViews.{Added, added_view}
 use Rattle.td_check.specs.declared.rules.lists.Item.{Item}
 use Rattle.td_check.specs.code.ItemViews.{items_view}
-use Rattle.td_check.specs.OperatorTypes.{mismatch, over_relation}
+use Rattle.td_check.specs.model.OperatorTypes.{mismatch, over_relation}
 use Rattle.td_tree.specs.declared.fault.Fault.{Fault}
 use Rattle.td_tree.specs.declared.fault.Fault.TheVariants as faults
-use Rattle.td_tree.specs.Outcomes.{Answers, Outcome, Valued}
+use Rattle.td_tree.specs.model.Outcomes.{Answers, Outcome, Valued}
 use Rattle.td_types.specs.code.TypeCode.{unpack_pack}
-use Rattle.td_types.specs.Types.{Type', Heading}
+use Rattle.td_types.specs.model.Types.{Type', Heading}
 use Rattle.td_types.specs.code.Views.{type_view}
 use Rattle.td_types.specs.declared.ty.Ty.{Ty}
 use Rattle.td_types.specs.declared.ty.Ty.TheVariants as ty

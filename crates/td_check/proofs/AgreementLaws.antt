@@ -3,19 +3,19 @@ use Rattle.std.proofs.Common.{◌≡◌, ◌<◌, ◌∙◌, ◌∷◌, ℕ, zer
 use Rattle.std.specs.Prelude.{is_some, if◌then◌else◌, IsTrue}
 use Rattle.std.specs.List.{AllByRecursion, Contains}
 use Rattle.std.proofs.lemmas.List.Elements.{Contains-append_cases, Contains-append_left, Contains-append_right}
-use Rattle.td_check.specs.OperatorTypes.{are_types_of, component_type, known_or, selector_type}
-use Rattle.td_check.specs.Mentions.{mentioned_by_name, types_named, types_named_in}
-use Rattle.td_check.specs.Scopes.{KnownRelvar, Scope, entered_with, innermost, known_relvar}
-use Rattle.td_check.specs.StaticLaws.{AgreeAt, AgreeOn, UsersAllIn, UsersIn}
-use Rattle.td_check.specs.StaticTypes.{name_type}
+use Rattle.td_check.specs.model.OperatorTypes.{are_types_of, component_type, known_or, selector_type}
+use Rattle.td_check.specs.model.Mentions.{mentioned_by_name, types_named, types_named_in}
+use Rattle.td_check.specs.model.Scopes.{KnownRelvar, Scope, entered_with, innermost, known_relvar}
+use Rattle.td_check.specs.laws.StaticLaws.{AgreeAt, AgreeOn, UsersAllIn, UsersIn}
+use Rattle.td_check.specs.model.StaticTypes.{name_type}
 use Rattle.td_tree.specs.declared.cause.Cause.{Cause}
 use Rattle.td_tree.specs.declared.cause.Cause.TheVariants as causes
-use Rattle.td_tree.specs.Outcomes.{Outcome, Valued, with_value, value_if}
-use Rattle.td_tree.specs.Trees.{TypeTree, AttributeTrees, no_attributes, attribute}
-use Rattle.td_tree.specs.Trees as trees
-use Rattle.td_types.specs.Headings.{made_heading}
-use Rattle.td_types.specs.TypeLists.{DeclaredType, attributes_meant, declared_at, heading_meant, is_declared, type_meant}
-use Rattle.td_types.specs.Types.{Attribute, Heading, Type', boolean, char, integer, pack, relation, tuple, type_at, user}
+use Rattle.td_tree.specs.model.Outcomes.{Outcome, Valued, with_value, value_if}
+use Rattle.td_tree.specs.model.Trees.{TypeTree, AttributeTrees, no_attributes, attribute}
+use Rattle.td_tree.specs.model.Trees as trees
+use Rattle.td_types.specs.model.Headings.{made_heading}
+use Rattle.td_types.specs.model.TypeLists.{DeclaredType, attributes_meant, declared_at, heading_meant, is_declared, type_meant}
+use Rattle.td_types.specs.model.Types.{Attribute, Heading, Type', boolean, char, integer, pack, relation, tuple, type_at, user}
 use Rattle.td_types.proofs.DeclaredTypes.{found}
 use Rattle.td_types.proofs.OutcomeLaws.{value_of_test, value_of_with, valued_is}
 use Rattle.td_check.proofs.CarriedLaws.{Carries, Each, Follows, follows_both, follows_itself, follows_with}

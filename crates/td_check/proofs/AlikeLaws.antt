@@ -2,22 +2,22 @@
 use denote.Param.Weighed.{most}
 use Rattle.std.proofs.Common.{◌≡◌, ◌∙◌, ◌≤◌, ◌++◌, ℕ, zero, suc, arith, take, List, [], ◌∷◌, ap, map, refl, sym, Bool, true, false, Result, Ok, Err}
 use Rattle.std.specs.Prelude.{if◌then◌else◌, nat_le}
-use Rattle.td_tree.specs.Causes.{number_of}
+use Rattle.td_tree.specs.model.Causes.{number_of}
 use Rattle.std.specs.Cmp.{tied_itself}
 use Rattle.td_check.specs.code.Alike.{AreAnsweredAlike, AreEnough, AreLike, AreLikeTuples}
-use Rattle.td_check.specs.Mentions.{relvars_in, relvars_in_all, relvars_in_named, types_in, types_in_all, types_in_named}
-use Rattle.td_check.specs.OperatorTypes.{element_type, headed_type, listed_type, same_heading, tuple_type}
-use Rattle.td_check.specs.Scopes.{Scope}
-use Rattle.td_check.specs.StaticTypes.{named_types, type_of, types_of}
+use Rattle.td_check.specs.model.Mentions.{relvars_in, relvars_in_all, relvars_in_named, types_in, types_in_all, types_in_named}
+use Rattle.td_check.specs.model.OperatorTypes.{element_type, headed_type, listed_type, same_heading, tuple_type}
+use Rattle.td_check.specs.model.Scopes.{Scope}
+use Rattle.td_check.specs.model.StaticTypes.{named_types, type_of, types_of}
 use Rattle.td_tree.specs.declared.fault.Fault.{Fault}
 use Rattle.td_tree.specs.declared.fault.Fault.TheVariants as faults
 use Rattle.td_tree.specs.declared.cause.Cause.{Cause}
 use Rattle.td_tree.specs.declared.cause.Cause.TheVariants as causes
-use Rattle.td_tree.specs.Outcomes.{Answers, Causes, Outcome, Refused, Union, Valued, gathered, least, lesser, value_if, with_both, with_value}
-use Rattle.td_tree.specs.Trees.{Tree, tuple, Trees, none, more, NamedTrees, none_named, more_named}
-use Rattle.td_types.specs.TypeOrder.{heading_cmp_total}
-use Rattle.td_types.specs.Types.{Type', Heading, pack, unpack}
-use Rattle.td_types.specs.Types as types
+use Rattle.td_tree.specs.model.Outcomes.{Answers, Causes, Outcome, Refused, Union, Valued, gathered, least, lesser, value_if, with_both, with_value}
+use Rattle.td_tree.specs.model.Trees.{Tree, tuple, Trees, none, more, NamedTrees, none_named, more_named}
+use Rattle.td_types.specs.code.TypeOrder.{heading_cmp_total}
+use Rattle.td_types.specs.model.Types.{Type', Heading, pack, unpack}
+use Rattle.td_types.specs.model.Types as types
 
 -- whoever answers the one answers the other
 pub answers_alike : {X A : Type 0} (view : X → A) (r : Result X Fault) (o p : Outcome A) → AreAnsweredAlike o p → Answers view r p → Answers view r o

@@ -1,10 +1,10 @@
 -- What follows of two answers, by what they give together.
 use Rattle.std.proofs.Common.{◌≡◌, Some, Result, Ok, Err, refl, subst}
-use Rattle.td_tree.specs.Gatherings.{both_answers, lesser_fault}
+use Rattle.td_tree.specs.code.Gatherings.{both_answers, lesser_fault}
 use Rattle.td_tree.specs.declared.cause.Cause.{Cause}
 use Rattle.td_tree.specs.declared.fault.Fault.{Fault}
 use Rattle.td_tree.specs.declared.fault.Fault.TheVariants as faults
-use Rattle.td_tree.specs.Outcomes.{Answers, Outcome, Valued, Refused, lesser, least, named_cause, with_both}
+use Rattle.td_tree.specs.model.Outcomes.{Answers, Outcome, Valued, Refused, lesser, least, named_cause, with_both}
 
 module _ {X Y Z A B C : Type 0} (first : X → A) (second : Y → B) (next : Z → C) (k : A → B → Outcome C) where
   second_refused : (x : A) (p : Outcome B) (e : Fault) → Answers second (Err e) p → Answers next (Err e) (with_both (Valued x) p k)

@@ -7,25 +7,25 @@ use Rattle.std.proofs.Math.Dec.{eqb-suc-zero}
 use Rattle.std.specs.Bool.{◌==◌}
 use Rattle.std.specs.Global.{Box, Vec}
 use Rattle.std.specs.Prelude.{if◌then◌else◌, is_some}
-use Rattle.td_check.specs.CannotFail.{all_cannot_fail, all_unfailing, cannot_fail, cannot_fail_of, is_no_virtual, items_cannot_fail, measure_cannot_fail, name_cannot_fail, none_fails_where_bound, unfailing, operator_cannot_fail, parts_unfailing, parts_cannot_fail, prefix_cannot_fail, relvar_cannot_fail, relvars_cannot_fail, selector_cannot_fail}
+use Rattle.td_check.specs.laws.CannotFail.{all_cannot_fail, all_unfailing, cannot_fail, cannot_fail_of, is_no_virtual, items_cannot_fail, measure_cannot_fail, name_cannot_fail, none_fails_where_bound, unfailing, operator_cannot_fail, parts_unfailing, parts_cannot_fail, prefix_cannot_fail, relvar_cannot_fail, relvars_cannot_fail, selector_cannot_fail}
 use Rattle.td_check.specs.code.CheckViews.{Names}
-use Rattle.td_check.specs.Mentions.{behind_item, in_tuples, mentioned_by_name, relvars_in, relvars_in_all, relvars_in_named, relvars_where_bound, types_in}
-use Rattle.td_check.specs.Scopes.{KnownRelvar, Scope, innermost, relvar_in}
-use Rattle.td_check.specs.StaticTypes.{type_of}
+use Rattle.td_check.specs.model.Mentions.{behind_item, in_tuples, mentioned_by_name, relvars_in, relvars_in_all, relvars_in_named, relvars_where_bound, types_in}
+use Rattle.td_check.specs.model.Scopes.{KnownRelvar, Scope, innermost, relvar_in}
+use Rattle.td_check.specs.model.StaticTypes.{type_of}
 use Rattle.td_tree.specs.declared.expression.Expr.{Expr}
 use Rattle.td_tree.specs.declared.expression.Expr.TheVariants as x
 use Rattle.td_tree.specs.declared.expression.NamedExpr.{NamedExpr}
 use Rattle.td_tree.specs.declared.expression.Summary.{Summary}
 use Rattle.td_tree.specs.declared.expression.Summary.TheVariants as s
 use Rattle.td_tree.specs.declared.type_tree.AttributeTree.{AttributeTree}
-use Rattle.td_tree.specs.Outcomes.{Outcome, Valued, Refused, with_value}
+use Rattle.td_tree.specs.model.Outcomes.{Outcome, Valued, Refused, with_value}
 use Rattle.td_tree.specs.code.TreeViews.{named_view, summaries_view, tree_view, trees_view}
-use Rattle.td_tree.specs.Trees.{Tree, literal, name, parentheses, prefix, extract, restriction, binary, compare, postfix, select, component, measure, aggregate, relation, headed_relation, tuple, extend, extend_setting, summarize_per, summarize_by, choice, binding, Trees, none, more, NamedTrees, none_named, more_named, no_summaries, counted, summed}
+use Rattle.td_tree.specs.model.Trees.{Tree, literal, name, parentheses, prefix, extract, restriction, binary, compare, postfix, select, component, measure, aggregate, relation, headed_relation, tuple, extend, extend_setting, summarize_per, summarize_by, choice, binding, Trees, none, more, NamedTrees, none_named, more_named, no_summaries, counted, summed}
 use Rattle.td_tree.proofs.code_lemmas.Rows.{extend_is, extend_setting_is, headed_relation_is, relation_is}
 use Rattle.td_types.proofs.OutcomeLaws.{valued_is}
-use Rattle.td_types.specs.TypeLists.{DeclaredType}
-use Rattle.td_types.specs.Types.{Type'}
-use Rattle.td_types.specs.Types as types
+use Rattle.td_types.specs.model.TypeLists.{DeclaredType}
+use Rattle.td_types.specs.model.Types.{Type'}
+use Rattle.td_types.specs.model.Types as types
 
 and_true : (b : Bool) → b ≡ (b && true)
 and_true true = refl

@@ -1,11 +1,11 @@
 -- What one outcome has, another has too, and so have outcomes made of such, with the names that are mentioned for them.
 use Rattle.std.proofs.Common.{◌≡◌, ◌∙◌, ◌++◌, ℕ, List, ap, subst, sym}
 use Rattle.std.specs.List.{Contains}
-use Rattle.td_check.specs.Mentions.{behind_item, in_tuples}
-use Rattle.td_check.specs.OperatorTypes.{over_relation}
-use Rattle.td_check.specs.Scopes.{Scope, bound_to, entered_with}
-use Rattle.td_tree.specs.Outcomes.{Outcome, Valued, with_both, with_value}
-use Rattle.td_types.specs.Types.{Attrs, Heading, Type', boolean, char, integer, relation, tuple, unpack, user}
+use Rattle.td_check.specs.model.Mentions.{behind_item, in_tuples}
+use Rattle.td_check.specs.model.OperatorTypes.{over_relation}
+use Rattle.td_check.specs.model.Scopes.{Scope, bound_to, entered_with}
+use Rattle.td_tree.specs.model.Outcomes.{Outcome, Valued, with_both, with_value}
+use Rattle.td_types.specs.model.Types.{Attrs, Heading, Type', boolean, char, integer, relation, tuple, unpack, user}
 use Rattle.td_types.proofs.OutcomeLaws.{value_of_with, values_of_both}
 use Rattle.td_check.proofs.OperatorLaws.{Gives}
 

@@ -6,17 +6,17 @@ use Rattle.std.specs.Global.{Vec}
 use Rattle.std.specs.Prelude.{if◌then◌else◌, is_some}
 use Rattle.td_check.specs.code.CheckViews.{Names, bound_found, bounds_found, with_names}
 use Rattle.td_check.specs.code.PlaceViews.{is_bound, within_all}
-use Rattle.td_check.specs.Mentions.{behind_item, relvars_in, relvars_where_bound, types_in, types_in_named}
-use Rattle.td_check.specs.OperatorTypes as own
-use Rattle.td_check.specs.Scopes.{Scope, bound_to, entered_with}
-use Rattle.td_check.specs.StaticTypes.{type_of, type_where_bound}
+use Rattle.td_check.specs.model.Mentions.{behind_item, relvars_in, relvars_where_bound, types_in, types_in_named}
+use Rattle.td_check.specs.model.OperatorTypes as own
+use Rattle.td_check.specs.model.Scopes.{Scope, bound_to, entered_with}
+use Rattle.td_check.specs.model.StaticTypes.{type_of, type_where_bound}
 use Rattle.td_check.proofs.CheckedNames.{names_twice, no_names}
 use Rattle.td_tree.specs.declared.expression.NamedExpr.{NamedExpr}
 use Rattle.td_tree.specs.declared.fault.Fault.{Fault}
-use Rattle.td_tree.specs.Outcomes.{Answers, Outcome, Valued, Refused, with_value}
+use Rattle.td_tree.specs.model.Outcomes.{Answers, Outcome, Valued, Refused, with_value}
 use Rattle.td_tree.specs.code.TreeViews.{named_view, tree_view}
-use Rattle.td_types.specs.Headings.{has_attribute, has_name}
-use Rattle.td_types.specs.Types.{Heading, Type', same_name}
+use Rattle.td_types.specs.model.Headings.{has_attribute, has_name}
+use Rattle.td_types.specs.model.Types.{Heading, Type', same_name}
 use Rattle.td_types.proofs.OutcomeLaws.{valued_is, value_of_with}
 use Rattle.td_types.proofs.Resolutions.{answers_still}
 

@@ -6,19 +6,19 @@ use Rattle.std.specs.Prelude.{OnOk, is_some}
 use Rattle.td_check.specs.code.CheckViews.{Added, Names, added_view, per_view, per_summary, with_names}
 use Rattle.td_check.specs.declared.rules.lists.Item.{Item}
 use Rattle.td_check.specs.code.ItemViews.{items_view}
-use Rattle.td_check.specs.Mentions.{in_tuples, relvars_in, relvars_in_items, types_in, types_in_items}
-use Rattle.td_check.specs.OperatorTypes as own
-use Rattle.td_check.specs.OperatorTypes.{over_relation}
-use Rattle.td_check.specs.Scopes.{Scope, entered_with}
-use Rattle.td_check.specs.StaticTypes.{type_of, with_items}
+use Rattle.td_check.specs.model.Mentions.{in_tuples, relvars_in, relvars_in_items, types_in, types_in_items}
+use Rattle.td_check.specs.model.OperatorTypes as own
+use Rattle.td_check.specs.model.OperatorTypes.{over_relation}
+use Rattle.td_check.specs.model.Scopes.{Scope, entered_with}
+use Rattle.td_check.specs.model.StaticTypes.{type_of, with_items}
 use Rattle.td_check.proofs.CheckedNames.{names_after}
 use Rattle.td_check.proofs.Gives.{Gives, parts_given}
-use Rattle.td_tree.specs.Gatherings.{both_answers}
+use Rattle.td_tree.specs.code.Gatherings.{both_answers}
 use Rattle.td_tree.specs.declared.fault.Fault.{Fault}
-use Rattle.td_tree.specs.Outcomes.{Answers, Outcome, Valued, with_value}
-use Rattle.td_tree.specs.Trees.{Summaries, Tree}
+use Rattle.td_tree.specs.model.Outcomes.{Answers, Outcome, Valued, with_value}
+use Rattle.td_tree.specs.model.Trees.{Summaries, Tree}
 use Rattle.td_types.specs.code.TypeCode.{unpack_pack}
-use Rattle.td_types.specs.Types.{Type', Heading}
+use Rattle.td_types.specs.model.Types.{Type', Heading}
 use Rattle.td_types.specs.code.Views.{type_view}
 use Rattle.td_types.specs.declared.ty.Ty.{Ty}
 use Rattle.td_types.specs.declared.ty.Ty.TheVariants as ty

@@ -7,8 +7,8 @@ use Rattle.td_check.proofs.CheckedNames.{names_after, no_names}
 use Rattle.td_tree.specs.declared.cause.Cause.{Cause}
 use Rattle.td_tree.specs.declared.fault.Fault.{Fault}
 use Rattle.td_tree.specs.declared.fault.Fault.TheVariants as faults
-use Rattle.td_tree.specs.Gatherings.{IsCollected, IsGathered, answer_of}
-use Rattle.td_tree.specs.Outcomes.{Answers, Outcome, gathered, lesser}
+use Rattle.td_tree.specs.code.Gatherings.{IsCollected, IsGathered, answer_of}
+use Rattle.td_tree.specs.model.Outcomes.{Answers, Outcome, gathered, lesser}
 use Rattle.td_tree.proofs.code_lemmas.Gatherings.{answers_gathered, collected_next}
 
 -- what the elements mention, one after another

@@ -3,13 +3,13 @@ use Rattle.std.proofs.Common.{◌≡◌, ◌∙◌, ◌++◌, ℕ, List, [], Res
 use Rattle.std.proofs.lemmas.List.{append-nil, append_assoc}
 use Rattle.std.specs.Prelude.{OnOk}
 use Rattle.td_check.specs.code.CheckViews.{Names, with_names}
-use Rattle.td_check.specs.Mentions.{relvars_in, types_in}
-use Rattle.td_check.specs.Scopes.{Scope}
+use Rattle.td_check.specs.model.Mentions.{relvars_in, types_in}
+use Rattle.td_check.specs.model.Scopes.{Scope}
 use Rattle.td_check.proofs.Gives.{Gives, both_there, held_of_parts, weaker}
-use Rattle.td_tree.specs.Gatherings.{both_answers}
+use Rattle.td_tree.specs.code.Gatherings.{both_answers}
 use Rattle.td_tree.specs.declared.fault.Fault.{Fault}
-use Rattle.td_tree.specs.Outcomes.{Outcome}
-use Rattle.td_tree.specs.Trees.{Tree}
+use Rattle.td_tree.specs.model.Outcomes.{Outcome}
+use Rattle.td_tree.specs.model.Trees.{Tree}
 
 pub no_names : (n : Names) → n ≡ with_names n [] []
 no_names n = sym (λ i. (append-nil n.0 i, append-nil n.1 i))

@@ -2,19 +2,19 @@
 use Rattle.std.proofs.Common.{◌≡◌, ◌∙◌, ◌∷◌, ◌++◌, ℕ, List, [], ap, map, refl}
 use Rattle.std.proofs.lemmas.List.{append-nil}
 use Rattle.td_check.specs.code.CheckViews.{item_found, part_found}
-use Rattle.td_check.specs.Mentions.{relvars_in, relvars_in_all, relvars_in_items, relvars_in_named, types_in, types_in_all, types_in_items, types_in_named}
-use Rattle.td_check.specs.OperatorTypes.{Item, aggregate_item, count_item}
-use Rattle.td_check.specs.Scopes.{Scope}
-use Rattle.td_check.specs.StaticTypes.{items_of, named_types, type_of, types_of}
+use Rattle.td_check.specs.model.Mentions.{relvars_in, relvars_in_all, relvars_in_items, relvars_in_named, types_in, types_in_all, types_in_items, types_in_named}
+use Rattle.td_check.specs.model.OperatorTypes.{Item, aggregate_item, count_item}
+use Rattle.td_check.specs.model.Scopes.{Scope}
+use Rattle.td_check.specs.model.StaticTypes.{items_of, named_types, type_of, types_of}
 use Rattle.td_check.proofs.CheckedLists.{of_each}
 use Rattle.td_tree.specs.declared.expression.Expr.{Expr}
 use Rattle.td_tree.specs.declared.expression.NamedExpr.{NamedExpr}
 use Rattle.td_tree.specs.declared.expression.Summary.{Summary}
 use Rattle.td_tree.specs.declared.expression.Summary.TheVariants as s
 use Rattle.td_tree.specs.declared.operator.Aggregate.{Aggregate}
-use Rattle.td_tree.specs.Outcomes.{Outcome, Valued, Refused, gathered, with_both, with_value}
+use Rattle.td_tree.specs.model.Outcomes.{Outcome, Valued, Refused, gathered, with_both, with_value}
 use Rattle.td_tree.specs.code.TreeViews.{named_view, summaries_view, tree_view, trees_view}
-use Rattle.td_types.specs.Types.{Type', Attribute}
+use Rattle.td_types.specs.model.Types.{Type', Attribute}
 
 module _ (scope : Scope) where
   -- ---- expressions

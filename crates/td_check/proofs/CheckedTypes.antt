@@ -2,15 +2,15 @@
 use Rattle.std.proofs.Common.{◌≡◌, ◌∙◌, List, Option, Some, None, Result, map, refl, subst, sym}
 use Rattle.std.specs.Global.{Vec}
 use Rattle.td_check.specs.code.CheckViews.{Added, choice_of, headed_view, by_summary, per_summary, three_types_view, types_view}
-use Rattle.td_check.specs.OperatorTypes as own
-use Rattle.td_check.specs.OperatorTypes.{headed_type, over_relation}
-use Rattle.td_check.specs.StaticTypes.{both_types}
+use Rattle.td_check.specs.model.OperatorTypes as own
+use Rattle.td_check.specs.model.OperatorTypes.{headed_type, over_relation}
+use Rattle.td_check.specs.model.StaticTypes.{both_types}
 use Rattle.td_check.proofs.Gives.{Gives, answers_paired, paired_first, with_pair}
-use Rattle.td_tree.specs.Gatherings.{both_answers}
+use Rattle.td_tree.specs.code.Gatherings.{both_answers}
 use Rattle.td_tree.specs.declared.fault.Fault.{Fault}
-use Rattle.td_tree.specs.Outcomes.{Answers, Outcome, Valued, Refused, with_both, with_value}
-use Rattle.td_tree.specs.Trees.{Attributes}
-use Rattle.td_types.specs.Types.{Type', boolean, integer, char, user, tuple, relation, Attribute, Heading}
+use Rattle.td_tree.specs.model.Outcomes.{Answers, Outcome, Valued, Refused, with_both, with_value}
+use Rattle.td_tree.specs.model.Trees.{Attributes}
+use Rattle.td_types.specs.model.Types.{Type', boolean, integer, char, user, tuple, relation, Attribute, Heading}
 use Rattle.td_types.specs.code.Views.{type_view}
 use Rattle.td_types.specs.declared.ty.Ty.{Ty}
 

@@ -1,11 +1,11 @@
 -- What is answered of two operands that are compared, by whether their types are one.
 use Rattle.std.proofs.Common.{◌≡◌, ◌∙◌, true, false, Some, refl}
 use Rattle.std.proofs.lemmas.Cmp.{eq_by_cmp_equiv}
-use Rattle.td_check.specs.OperatorTypes.{equality_type, same_type}
+use Rattle.td_check.specs.model.OperatorTypes.{equality_type, same_type}
 use Rattle.td_tree.specs.declared.cause.Cause.TheVariants as causes
-use Rattle.td_tree.specs.Outcomes.{Valued, named_cause}
-use Rattle.td_types.specs.TypeOrder.{type_cmp_total}
-use Rattle.td_types.specs.Types.{Type', Heading, boolean, integer, char, user, tuple, relation, pack}
+use Rattle.td_tree.specs.model.Outcomes.{Valued, named_cause}
+use Rattle.td_types.specs.code.TypeOrder.{type_cmp_total}
+use Rattle.td_types.specs.model.Types.{Type', Heading, boolean, integer, char, user, tuple, relation, pack}
 use Rattle.td_types.specs.code.Views.{type_view}
 use Rattle.td_types.specs.declared.ty.Ty.{Ty}
 use Rattle.td_types.specs.declared.ty.Ty.TheVariants as t

@@ -2,14 +2,14 @@
 use Rattle.std.proofs.Common.{◌≡◌, ◌∷◌, ℕ, Bool, List, [], Some, refl, subst, sym, true}
 use Rattle.std.specs.List.{Contains}
 use Rattle.std.proofs.lemmas.List.Elements.{Contains-append_left, Contains-append_right}
-use Rattle.td_check.specs.Mentions.{types_in}
-use Rattle.td_check.specs.Scopes.{Scope}
-use Rattle.td_check.specs.StaticLaws.{AgreeAt, AgreeOn, IsScope, UsersAllIn, UsersIn}
-use Rattle.td_check.specs.StaticTypes.{type_of}
-use Rattle.td_tree.specs.Outcomes.{Valued}
-use Rattle.td_tree.specs.Trees.{Tree}
-use Rattle.td_types.specs.TypeLists.{AreKnown, DeclaredType, IsKnown, declared_at, is_declared}
-use Rattle.td_types.specs.Types.{Attribute, Attrs, Type', attr, boolean, char, integer, no_attrs, pack, relation, tuple, user}
+use Rattle.td_check.specs.model.Mentions.{types_in}
+use Rattle.td_check.specs.model.Scopes.{Scope}
+use Rattle.td_check.specs.laws.StaticLaws.{AgreeAt, AgreeOn, IsScope, UsersAllIn, UsersIn}
+use Rattle.td_check.specs.model.StaticTypes.{type_of}
+use Rattle.td_tree.specs.model.Outcomes.{Valued}
+use Rattle.td_tree.specs.model.Trees.{Tree}
+use Rattle.td_types.specs.model.TypeLists.{AreKnown, DeclaredType, IsKnown, declared_at, is_declared}
+use Rattle.td_types.specs.model.Types.{Attribute, Attrs, Type', attr, boolean, char, integer, no_attrs, pack, relation, tuple, user}
 use Rattle.td_types.proofs.DeclaredTypes.{IsKnown-earlier, declarable_at, stands_in}
 use Rattle.td_check.proofs.AgreementLaws.{one_is}
 use Rattle.td_check.proofs.MentionLaws.{carried}

@@ -2,8 +2,8 @@
 use Rattle.std.proofs.Common.{◌≡◌, ◌∙◌, ℕ, List, [], ◌∷◌, Option, Some, None, ap, length, option_map, refl, reverse, sym, Bor, arith}
 use Rattle.std.specs.List.{push}
 use Rattle.std.proofs.lemmas.List.{reverse-append}
-use Rattle.td_check.specs.Scopes.{innermost}
-use Rattle.td_types.specs.Types.{Type', Heading, type_at}
+use Rattle.td_check.specs.model.Scopes.{innermost}
+use Rattle.td_types.specs.model.Types.{Type', Heading, type_at}
 use Rattle.td_types.specs.code.Views.{type_view}
 use Rattle.td_types.specs.declared.ty.Ty.{Ty}
 

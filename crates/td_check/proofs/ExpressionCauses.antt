@@ -1,11 +1,11 @@
 -- Types and expressions are refused by their own causes alone: by induction on the trees.
 use Rattle.std.proofs.Common.{◌∷◌, Bool, true, false, ℕ, List, [], map, Option, Some, None}
 use Rattle.std.specs.Prelude.{if◌then◌else◌}
-use Rattle.td_check.specs.OperatorTypes as rules
-use Rattle.td_check.specs.OperatorTypes.{Item, aggregate_item, aggregate_type, attribute_type, closure_type, comparison_type, component_type, composed_heading, count_item, element_type, equality_type, extended_by, extension_type, extracted_type, headed_type, item_type, known_or, listed_type, measure_type, membership_type, mismatch, named_part, operator_type, order_type, over_relation, per_heading, postfix_type, prefix_type, restriction_type, selector_type, set_heading, setting_type, summary_type, tuple_type}
-use Rattle.td_check.specs.Scopes.{Scope, bound_to, entered_with, innermost, known_relvar}
-use Rattle.td_check.specs.StaticCauses.{IsRefusedOnlyBy}
-use Rattle.td_check.specs.StaticTypes.{items_of, name_type, named_types, both_types, type_of, type_where_bound, types_of, with_items}
+use Rattle.td_check.specs.model.OperatorTypes as rules
+use Rattle.td_check.specs.model.OperatorTypes.{Item, aggregate_item, aggregate_type, attribute_type, closure_type, comparison_type, component_type, composed_heading, count_item, element_type, equality_type, extended_by, extension_type, extracted_type, headed_type, item_type, known_or, listed_type, measure_type, membership_type, mismatch, named_part, operator_type, order_type, over_relation, per_heading, postfix_type, prefix_type, restriction_type, selector_type, set_heading, setting_type, summary_type, tuple_type}
+use Rattle.td_check.specs.model.Scopes.{Scope, bound_to, entered_with, innermost, known_relvar}
+use Rattle.td_check.specs.laws.StaticCauses.{IsRefusedOnlyBy}
+use Rattle.td_check.specs.model.StaticTypes.{items_of, name_type, named_types, both_types, type_of, type_where_bound, types_of, with_items}
 use Rattle.td_check.proofs.Refusals.{by_both, by_each, by_known, by_one, by_relation, by_test, by_tuple, by_value}
 use Rattle.td_tree.specs.declared.cause.Cause.{Cause}
 use Rattle.td_tree.specs.declared.cause.Cause.TheVariants as causes
@@ -19,13 +19,13 @@ use Rattle.td_tree.specs.declared.operator.Operator.{Operator}
 use Rattle.td_tree.specs.declared.operator.Operator.TheVariants as operators
 use Rattle.td_tree.specs.declared.operator.Prefix.{Prefix}
 use Rattle.td_tree.specs.declared.operator.Prefix.TheVariants as prefixes
-use Rattle.td_tree.specs.Outcomes.{Outcome, Valued, gathered, value_if, with_value}
-use Rattle.td_tree.specs.Trees.{AttributeTrees, Attributes, only, all_but, Postfix, project, rename, group, ungroup, wrap, unwrap, Tree, literal, name, parentheses, prefix, extract, restriction, binary, compare, postfix, select, component, measure, aggregate, relation, headed_relation, tuple, extend, extend_setting, summarize_per, summarize_by, choice, binding, Trees, none, more, NamedTrees, none_named, more_named, Summaries, no_summaries, counted, summed, TypeTree, no_attributes, attribute}
-use Rattle.td_tree.specs.Trees as trees
-use Rattle.td_types.specs.Headings.{agree, common_heading, common_part, has_name, has_projection, heading_union, made_heading, outside, projected_heading, projection}
-use Rattle.td_types.specs.TypeLists.{DeclaredType, attributes_meant, declared_at, heading_meant, is_declared, type_meant}
-use Rattle.td_types.specs.Types.{Attribute, Heading, Type', pack, type_at}
-use Rattle.td_types.specs.Types as types
+use Rattle.td_tree.specs.model.Outcomes.{Outcome, Valued, gathered, value_if, with_value}
+use Rattle.td_tree.specs.model.Trees.{AttributeTrees, Attributes, only, all_but, Postfix, project, rename, group, ungroup, wrap, unwrap, Tree, literal, name, parentheses, prefix, extract, restriction, binary, compare, postfix, select, component, measure, aggregate, relation, headed_relation, tuple, extend, extend_setting, summarize_per, summarize_by, choice, binding, Trees, none, more, NamedTrees, none_named, more_named, Summaries, no_summaries, counted, summed, TypeTree, no_attributes, attribute}
+use Rattle.td_tree.specs.model.Trees as trees
+use Rattle.td_types.specs.model.Headings.{agree, common_heading, common_part, has_name, has_projection, heading_union, made_heading, outside, projected_heading, projection}
+use Rattle.td_types.specs.model.TypeLists.{DeclaredType, attributes_meant, declared_at, heading_meant, is_declared, type_meant}
+use Rattle.td_types.specs.model.Types.{Attribute, Heading, Type', pack, type_at}
+use Rattle.td_types.specs.model.Types as types
 
 -- ---- types
 

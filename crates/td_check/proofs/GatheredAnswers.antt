@@ -4,8 +4,8 @@ use Rattle.std.proofs.lemmas.List.{map-append, take_more}
 use Rattle.td_tree.specs.declared.cause.Cause.{Cause}
 use Rattle.td_tree.specs.declared.fault.Fault.{Fault}
 use Rattle.td_tree.specs.declared.fault.Fault.TheVariants as faults
-use Rattle.td_tree.specs.Gatherings.{IsGathered, IsRest, answer_of, cause_of, lesser_cause}
-use Rattle.td_tree.specs.Outcomes.{Answers, Outcome, Valued, Refused, gathered, named_cause, with_value}
+use Rattle.td_tree.specs.code.Gatherings.{IsGathered, IsRest, answer_of, cause_of, lesser_cause}
+use Rattle.td_tree.specs.model.Outcomes.{Answers, Outcome, Valued, Refused, gathered, named_cause, with_value}
 use Rattle.td_tree.proofs.code_lemmas.Gatherings.{gathered_more}
 
 -- what is said of elements that stand for others

@@ -2,22 +2,22 @@
 use Rattle.std.proofs.Common.{◌≡◌, ◌∷◌, ℕ, List, [], ◌⊎◌, inl, inr, Option, Some, None, refl, subst}
 use Rattle.std.specs.List.{AllByRecursion, Contains}
 use Rattle.std.proofs.lemmas.List.Elements.{Contains-append_cases, Contains-append_left, Contains-append_right}
-use Rattle.td_check.specs.OperatorTypes.{Item, count_item, aggregate_item, aggregate_type, are_types_of, choice_type, comparison_type, component_type, extension_type, extracted_type, headed_type, known_or, listed_type, measure_type, mismatch, named_part, operator_type, per_heading, postfix_type, prefix_type, selector_type, setting_type, summary_type, tuple_type, restriction_type}
-use Rattle.td_check.specs.Scopes.{KnownRelvar, Scope, bound_to, entered_with, innermost, known_relvar}
-use Rattle.td_check.specs.StaticTypes.{items_of, literal_type, name_type, named_types, both_types, type_of, type_where_bound, types_of, with_items}
+use Rattle.td_check.specs.model.OperatorTypes.{Item, count_item, aggregate_item, aggregate_type, are_types_of, choice_type, comparison_type, component_type, extension_type, extracted_type, headed_type, known_or, listed_type, measure_type, mismatch, named_part, operator_type, per_heading, postfix_type, prefix_type, selector_type, setting_type, summary_type, tuple_type, restriction_type}
+use Rattle.td_check.specs.model.Scopes.{KnownRelvar, Scope, bound_to, entered_with, innermost, known_relvar}
+use Rattle.td_check.specs.model.StaticTypes.{items_of, literal_type, name_type, named_types, both_types, type_of, type_where_bound, types_of, with_items}
 use Rattle.td_tree.specs.declared.cause.Cause.TheVariants as causes
 use Rattle.td_tree.specs.declared.operator.Operator.{Operator}
-use Rattle.td_tree.specs.Names.{IsName}
-use Rattle.td_tree.specs.Outcomes.{Outcome, Valued, Refused, value_if, with_both, with_value}
-use Rattle.td_tree.specs.Trees.{Literal, number, text, truth, table_dee, table_dum, Postfix, project, rename, group, ungroup, wrap, unwrap, Tree, literal, name, parentheses, prefix, extract, restriction, binary, compare, postfix, select, component, measure, aggregate, relation, headed_relation, tuple, extend, extend_setting, summarize_per, summarize_by, choice, binding, Trees, none, more, NamedTrees, none_named, more_named, Summaries, no_summaries, counted, summed}
-use Rattle.td_types.specs.Headings.{has_name}
-use Rattle.td_types.specs.TypeLists.{DeclaredType, declared_at, heading_meant}
-use Rattle.td_types.specs.Types.{Attribute, Heading, Type', pack, type_at, unpack}
-use Rattle.td_types.specs.Types as types
+use Rattle.td_tree.specs.model.Names.{IsName}
+use Rattle.td_tree.specs.model.Outcomes.{Outcome, Valued, Refused, value_if, with_both, with_value}
+use Rattle.td_tree.specs.model.Trees.{Literal, number, text, truth, table_dee, table_dum, Postfix, project, rename, group, ungroup, wrap, unwrap, Tree, literal, name, parentheses, prefix, extract, restriction, binary, compare, postfix, select, component, measure, aggregate, relation, headed_relation, tuple, extend, extend_setting, summarize_per, summarize_by, choice, binding, Trees, none, more, NamedTrees, none_named, more_named, Summaries, no_summaries, counted, summed}
+use Rattle.td_types.specs.model.Headings.{has_name}
+use Rattle.td_types.specs.model.TypeLists.{DeclaredType, declared_at, heading_meant}
+use Rattle.td_types.specs.model.Types.{Attribute, Heading, Type', pack, type_at, unpack}
+use Rattle.td_types.specs.model.Types as types
 use Rattle.td_check.proofs.AgreementLaws.{one_is, only_one}
 use Rattle.td_check.proofs.KnownLaws.{Supplies}
 use Rattle.td_check.proofs.OperatorLaws.{Fits, Gives, IsClosed, ItemFits, NewNames, aggregate_gives, choice_gives, comparison_gives, extension_gives, extracted_gives, gives_both, gives_if, gives_known, gives_unless, gives_with, headed_gives, listed_gives, measure_gives, operator_gives, over_relation_gives, part_gives, per_gives, postfix_gives, prefix_gives, restricted_gives, setting_gives, summary_gives, tuple_gives, type_fits}
-use Rattle.td_tree.specs.WrittenTrees.{GiveNames, GivesNames, ItemsGiveNames, OperatorGivesNames, PartsGiveNames}
+use Rattle.td_tree.specs.model.WrittenTrees.{GiveNames, GivesNames, ItemsGiveNames, OperatorGivesNames, PartsGiveNames}
 
 gives_value : {A : Type 0} (P : A → Type 0) (o : Outcome A) → ((x : A) → o ≡ Valued x → P x) → Gives P o
 gives_value P (Valued x) p = p x refl

@@ -2,11 +2,11 @@
 use Rattle.std.proofs.Common.{◌≡◌, Result, Ok, Err, refl, subst}
 use Rattle.std.specs.Prelude.{OnOk}
 use Rattle.td_check.proofs.BothAnswers.{both_given, both_refused}
-use Rattle.td_tree.specs.Gatherings.{both_answers}
+use Rattle.td_tree.specs.code.Gatherings.{both_answers}
 use Rattle.td_tree.specs.declared.cause.Cause.TheVariants as causes
 use Rattle.td_tree.specs.declared.fault.Fault.{Fault}
 use Rattle.td_tree.specs.declared.fault.Fault.TheVariants as faults
-use Rattle.td_tree.specs.Outcomes.{Answers, Outcome, Valued, Refused, Only, with_both, with_value}
+use Rattle.td_tree.specs.model.Outcomes.{Answers, Outcome, Valued, Refused, Only, with_both, with_value}
 
 -- whatever the parts stand for, the answer is what follows of it
 abbrev pub Gives : {X Y A B : Type 0} → (X → A) → Result X Fault → (A → Outcome B) → (Y → B) → Result Y Fault → Type 0

@@ -3,12 +3,12 @@
 use Rattle.std.proofs.Common.{◌≡◌, ◌∙◌, ◌∷◌, ℕ, Bool, true, false, List, [], Option, Some, None, Result, ap, refl, subst, sym, true≢false}
 use Rattle.std.specs.Prelude.{◌&&◌, ◌||◌, if◌then◌else◌, is_some, not}
 use Rattle.std.specs.List.{list_all}
-use Rattle.td_check.specs.OperatorTypes.{composed_heading, extended_by, joined_apart, set_heading}
+use Rattle.td_check.specs.model.OperatorTypes.{composed_heading, extended_by, joined_apart, set_heading}
 use Rattle.td_tree.specs.declared.cause.Cause.TheVariants as causes
 use Rattle.td_tree.specs.declared.fault.Fault.{Fault}
-use Rattle.td_tree.specs.Outcomes.{Answers, Valued, value_if, with_value}
-use Rattle.td_types.specs.Headings.{agree, are_distinct, common_heading, common_part, extended_heading, has_attribute, has_name, have_no_common, heading_from, heading_union, is_type_or_none, made_heading, outside, united_heading, with_attribute}
-use Rattle.td_types.specs.Types.{Attribute, Heading, IsAscending, Type', attribute_names, same_name, type_at}
+use Rattle.td_tree.specs.model.Outcomes.{Answers, Valued, value_if, with_value}
+use Rattle.td_types.specs.model.Headings.{agree, are_distinct, common_heading, common_part, extended_heading, has_attribute, has_name, have_no_common, heading_from, heading_union, is_type_or_none, made_heading, outside, united_heading, with_attribute}
+use Rattle.td_types.specs.model.Types.{Attribute, Heading, IsAscending, Type', attribute_names, same_name, type_at}
 use Rattle.td_types.proofs.HeadingLaws.{IsAscending-filter, IsAscending-union, has_attribute-with, same_name-flips, same_name-itself, type_at-common, type_at-outside, type_at-union, types_determine_heading}
 use Rattle.td_types.proofs.OutcomeLaws.{value_of_test}
 

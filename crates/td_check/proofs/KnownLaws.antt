@@ -3,21 +3,21 @@ use Rattle.std.proofs.Common.{◌≡◌, ◌∷◌, ℕ, Bool, true, false, List
 use Rattle.std.specs.Prelude.{if◌then◌else◌, is_some}
 use Rattle.std.specs.List.{Contains, filter}
 use Rattle.std.proofs.lemmas.List.Elements.{Contains-append_left, Contains-append_right}
-use Rattle.td_check.specs.Scopes.{KnownRelvar, Scope, known_relvar}
-use Rattle.td_check.specs.StaticLaws.{IsKnownHeading, IsScope}
-use Rattle.td_tree.specs.Names.{IsName}
-use Rattle.td_tree.specs.Outcomes.{Valued}
-use Rattle.td_tree.specs.Trees.{AttributeTrees}
-use Rattle.td_types.specs.Headings.{made_heading}
-use Rattle.td_types.specs.TypeLists.{AreKnown, DeclaredType, IsKnown, attributes_meant, declared_at, heading_meant}
-use Rattle.td_types.specs.Types.{Attribute, Attrs, Heading, IsHeading, IsType, Type', pack, same_name, type_at, unpack, user}
+use Rattle.td_check.specs.model.Scopes.{KnownRelvar, Scope, known_relvar}
+use Rattle.td_check.specs.laws.StaticLaws.{IsKnownHeading, IsScope}
+use Rattle.td_tree.specs.model.Names.{IsName}
+use Rattle.td_tree.specs.model.Outcomes.{Valued}
+use Rattle.td_tree.specs.model.Trees.{AttributeTrees}
+use Rattle.td_types.specs.model.Headings.{made_heading}
+use Rattle.td_types.specs.model.TypeLists.{AreKnown, DeclaredType, IsKnown, attributes_meant, declared_at, heading_meant}
+use Rattle.td_types.specs.model.Types.{Attribute, Attrs, Heading, IsHeading, IsType, Type', pack, same_name, type_at, unpack, user}
 use Rattle.td_types.proofs.DeclaredTypes.{AreKnown-with, IsKnown-earlier, declarable_at, stands_in}
 use Rattle.td_types.proofs.HeadingLaws.{IsHeading-filter, IsHeading-with}
 use Rattle.td_types.proofs.Meanings.{known_attributes, known_heading, pack_unpack}
 use Rattle.td_types.proofs.OutcomeLaws.{value_of_with}
 use Rattle.td_check.proofs.AgreementLaws.{one_is}
 use Rattle.td_check.proofs.OperatorLaws.{IsClosed}
-use Rattle.td_tree.specs.WrittenTrees.{HaveNames}
+use Rattle.td_tree.specs.model.WrittenTrees.{HaveNames}
 
 -- a type whose user types are declared
 abbrev pub IsKnownType : List DeclaredType → Type' → Type 0

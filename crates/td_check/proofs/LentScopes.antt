@@ -4,12 +4,12 @@ use Rattle.std.specs.Prelude.{if◌then◌else◌, is_some, length, not, ◌||�
 use Rattle.std.specs.List.{position, position_or_len}
 use Rattle.std.specs.Map.{keys_of, lookup}
 use Rattle.td_check.specs.code.LentScopes.{declared_relvars, known_as}
-use Rattle.td_check.specs.Scopes.{KnownRelvar, kind_and_heading, relvar_in}
+use Rattle.td_check.specs.model.Scopes.{KnownRelvar, kind_and_heading, relvar_in}
 use Rattle.td_check.specs.declared.declared.Declared.{Declared}
 use Rattle.td_check.specs.declared.scope.Kind.{Kind}
 use Rattle.td_check.specs.declared.scope.Kind.TheVariants.{Base, Virtual}
-use Rattle.td_types.specs.Headings.{has_name}
-use Rattle.td_types.specs.Types.{Heading, same_name}
+use Rattle.td_types.specs.model.Headings.{has_name}
+use Rattle.td_types.specs.model.Types.{Heading, same_name}
 use Rattle.td_types.proofs.HeadingLaws.{same_name-flips}
 
 -- the first, or else the second

@@ -4,17 +4,17 @@ use Rattle.std.specs.Prelude.{if◌then◌else◌, IsTrue, ⊤}
 use Rattle.std.proofs.lemmas.List.{append_assoc}
 use Rattle.std.specs.List.{AllByRecursion}
 use Rattle.std.proofs.lemmas.List.Elements.{Contains-append_left, Contains-append_right}
-use Rattle.td_check.specs.Mentions.{in_tuples, relvars_in, relvars_in_all, relvars_in_items, relvars_in_named, relvars_where_bound, types_in, types_in_all, types_in_items, types_in_named, types_named_in}
-use Rattle.td_check.specs.OperatorTypes.{count_item, aggregate_item, aggregate_type, choice_type, comparison_type, component_type, extension_type, extracted_type, headed_type, listed_type, measure_type, misfit, named_part, operator_type, per_heading, postfix_type, prefix_type, selector_type, setting_type, summary_type, tuple_type, restriction_type}
-use Rattle.td_check.specs.Scopes.{Scope, bound_to, entered_with}
-use Rattle.td_check.specs.StaticLaws.{AgreeAt, AgreeOn, UsersAllIn, UsersIn}
-use Rattle.td_check.specs.StaticTypes.{items_of, literal_type, named_types, type_of, type_where_bound, types_of}
+use Rattle.td_check.specs.model.Mentions.{in_tuples, relvars_in, relvars_in_all, relvars_in_items, relvars_in_named, relvars_where_bound, types_in, types_in_all, types_in_items, types_in_named, types_named_in}
+use Rattle.td_check.specs.model.OperatorTypes.{count_item, aggregate_item, aggregate_type, choice_type, comparison_type, component_type, extension_type, extracted_type, headed_type, listed_type, measure_type, misfit, named_part, operator_type, per_heading, postfix_type, prefix_type, selector_type, setting_type, summary_type, tuple_type, restriction_type}
+use Rattle.td_check.specs.model.Scopes.{Scope, bound_to, entered_with}
+use Rattle.td_check.specs.laws.StaticLaws.{AgreeAt, AgreeOn, UsersAllIn, UsersIn}
+use Rattle.td_check.specs.model.StaticTypes.{items_of, literal_type, named_types, type_of, type_where_bound, types_of}
 use Rattle.td_tree.specs.declared.operator.Operator.{Operator}
-use Rattle.td_tree.specs.Outcomes.{Outcome, Valued, with_both}
-use Rattle.td_tree.specs.Trees.{Literal, number, text, truth, table_dee, table_dum, Renaming, Postfix, project, rename, group, ungroup, wrap, unwrap, Tree, literal, name, parentheses, prefix, extract, restriction, binary, compare, postfix, select, component, measure, aggregate, relation, headed_relation, tuple, extend, extend_setting, summarize_per, summarize_by, choice, binding, Trees, none, more, NamedTrees, none_named, more_named, Summaries, no_summaries, counted, summed}
-use Rattle.td_types.specs.Headings.{has_name}
-use Rattle.td_types.specs.Types.{Attribute, Attrs, Heading, Type', pack, unpack}
-use Rattle.td_types.specs.Types as types
+use Rattle.td_tree.specs.model.Outcomes.{Outcome, Valued, with_both}
+use Rattle.td_tree.specs.model.Trees.{Literal, number, text, truth, table_dee, table_dum, Renaming, Postfix, project, rename, group, ungroup, wrap, unwrap, Tree, literal, name, parentheses, prefix, extract, restriction, binary, compare, postfix, select, component, measure, aggregate, relation, headed_relation, tuple, extend, extend_setting, summarize_per, summarize_by, choice, binding, Trees, none, more, NamedTrees, none_named, more_named, Summaries, no_summaries, counted, summed}
+use Rattle.td_types.specs.model.Headings.{has_name}
+use Rattle.td_types.specs.model.Types.{Attribute, Attrs, Heading, Type', pack, unpack}
+use Rattle.td_types.specs.model.Types as types
 use Rattle.td_types.proofs.OutcomeLaws.{valued_is}
 use Rattle.td_check.proofs.AgreementLaws.{Mentioned, agree_entered, component_follows, heading_follows, name_carried, one_is, selector_follows}
 use Rattle.td_check.proofs.CarriedLaws.{Carries, Each, carries_after, carries_behind, carries_both, carries_with, carries_within, follows_itself}

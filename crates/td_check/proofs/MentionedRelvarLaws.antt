@@ -3,13 +3,13 @@ use Rattle.std.proofs.Common.{◌≡◌, ◌∷◌, ◌++◌, ℕ, true, List, [
 use Rattle.std.specs.Prelude.{if◌then◌else◌, is_some}
 use Rattle.std.specs.List.{Contains}
 use Rattle.std.proofs.lemmas.List.Elements.{Contains-append_cases}
-use Rattle.td_check.specs.Mentions.{behind_item, in_tuples, mentioned_by_name, relvars_in, relvars_in_all, relvars_in_named, relvars_in_items, relvars_where_bound}
-use Rattle.td_check.specs.Scopes.{KnownRelvar, Scope, innermost, known_relvar}
-use Rattle.td_check.specs.StaticTypes.{type_of}
-use Rattle.td_tree.specs.Outcomes.{Outcome, Valued, Refused}
-use Rattle.td_tree.specs.Trees.{Tree, literal, name, parentheses, prefix, extract, restriction, binary, compare, postfix, select, component, measure, aggregate, relation, headed_relation, tuple, extend, extend_setting, summarize_per, summarize_by, choice, binding, Trees, none, more, NamedTrees, none_named, more_named, Summaries, no_summaries, counted, summed}
-use Rattle.td_types.specs.Types.{Type'}
-use Rattle.td_types.specs.Types as types
+use Rattle.td_check.specs.model.Mentions.{behind_item, in_tuples, mentioned_by_name, relvars_in, relvars_in_all, relvars_in_named, relvars_in_items, relvars_where_bound}
+use Rattle.td_check.specs.model.Scopes.{KnownRelvar, Scope, innermost, known_relvar}
+use Rattle.td_check.specs.model.StaticTypes.{type_of}
+use Rattle.td_tree.specs.model.Outcomes.{Outcome, Valued, Refused}
+use Rattle.td_tree.specs.model.Trees.{Tree, literal, name, parentheses, prefix, extract, restriction, binary, compare, postfix, select, component, measure, aggregate, relation, headed_relation, tuple, extend, extend_setting, summarize_per, summarize_by, choice, binding, Trees, none, more, NamedTrees, none_named, more_named, Summaries, no_summaries, counted, summed}
+use Rattle.td_types.specs.model.Types.{Type'}
+use Rattle.td_types.specs.model.Types as types
 use Rattle.td_check.proofs.AgreementLaws.{only_one}
 use Rattle.td_check.proofs.CarriedLaws.{Each}
 

@@ -2,7 +2,7 @@
 use Rattle.std.proofs.Common.{◌≡◌, ◌∙◌, ◌∷◌, ◌++◌, ◌+◌, ◌<◌, ◌⊎◌, inl, inr, ℕ, List, [], ap, get_or, length, sym, take}
 use Rattle.std.proofs.lemmas.List.{append-nil, append_assoc, take_more}
 use Rattle.std.specs.Global.{Vec}
-use Rattle.td_check.specs.Mentions.{types_named, types_named_in}
+use Rattle.td_check.specs.model.Mentions.{types_named, types_named_in}
 use Rattle.td_tree.specs.declared.type_tree.AttributeTree.{AttributeTree}
 use Rattle.td_tree.specs.declared.type_tree.TypeTree.{TypeTree}
 use Rattle.td_tree.specs.declared.type_tree.TypeTree.TheVariants as t

@@ -2,7 +2,7 @@
 use Rattle.std.proofs.Common.{◌≡◌, ◌∷◌, ℕ, Bool, true, false, List, [], Option, Some, None, fold, map, refl, subst}
 use Rattle.std.specs.Prelude.{not, if◌then◌else◌, ⊤}
 use Rattle.std.specs.List.{AllByRecursion, filter}
-use Rattle.td_check.specs.OperatorTypes.{Item, count_item, aggregate_item, aggregate_type, choice_type, closure_type, comparison_type, element_type, equality_type, extension_type, extracted_type, headed_type, item_type, joined_apart, known_or, listed_type, measure_type, membership_type, misfit, named_part, operator_type, order_type, over_relation, over_tuple, per_heading, postfix_type, prefix_type, relation_if, renaming_pairs, setting_type, summary_type, tuple_type, restriction_type}
+use Rattle.td_check.specs.model.OperatorTypes.{Item, count_item, aggregate_item, aggregate_type, choice_type, closure_type, comparison_type, element_type, equality_type, extension_type, extracted_type, headed_type, item_type, joined_apart, known_or, listed_type, measure_type, membership_type, misfit, named_part, operator_type, order_type, over_relation, over_tuple, per_heading, postfix_type, prefix_type, relation_if, renaming_pairs, setting_type, summary_type, tuple_type, restriction_type}
 use Rattle.td_tree.specs.declared.cause.Cause.{Cause}
 use Rattle.td_tree.specs.declared.cause.Cause.TheVariants as causes
 use Rattle.td_tree.specs.declared.operator.Aggregate.{Aggregate}
@@ -15,10 +15,10 @@ use Rattle.td_tree.specs.declared.operator.Operator.{Operator}
 use Rattle.td_tree.specs.declared.operator.Operator.TheVariants as operators
 use Rattle.td_tree.specs.declared.operator.Prefix.{Prefix}
 use Rattle.td_tree.specs.declared.operator.Prefix.TheVariants as prefixes
-use Rattle.td_tree.specs.Outcomes.{Outcome, Valued, Refused, gathered, value_if, with_both, with_value}
-use Rattle.td_tree.specs.Trees.{Attributes, only, all_but, Renaming, Postfix, project, rename, group, ungroup, wrap, unwrap}
-use Rattle.td_types.specs.Headings.{add_missing, common_heading, has_attribute, heading_union, made_heading, new_name, projected_heading, renamed_attributes, with_attribute}
-use Rattle.td_types.specs.Types.{Type', boolean, integer, char, user, tuple, relation, Attrs, Attribute, Heading, pack, same_name, type_at, unpack}
+use Rattle.td_tree.specs.model.Outcomes.{Outcome, Valued, Refused, gathered, value_if, with_both, with_value}
+use Rattle.td_tree.specs.model.Trees.{Attributes, only, all_but, Renaming, Postfix, project, rename, group, ungroup, wrap, unwrap}
+use Rattle.td_types.specs.model.Headings.{add_missing, common_heading, has_attribute, heading_union, made_heading, new_name, projected_heading, renamed_attributes, with_attribute}
+use Rattle.td_types.specs.model.Types.{Type', boolean, integer, char, user, tuple, relation, Attrs, Attribute, Heading, pack, same_name, type_at, unpack}
 
 -- ---- outcomes
 

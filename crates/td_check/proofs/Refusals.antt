@@ -1,12 +1,12 @@
 -- What is made of outcomes that are refused by some causes alone is refused by these alone.
 use Rattle.std.proofs.Common.{◌∷◌, Bool, true, false, List, [], map, inl, inr, Option, Some, None, subst, sym}
-use Rattle.td_check.specs.OperatorTypes.{known_or, over_relation, over_tuple}
-use Rattle.td_check.specs.StaticCauses.{IsRefusedOnlyBy}
+use Rattle.td_check.specs.model.OperatorTypes.{known_or, over_relation, over_tuple}
+use Rattle.td_check.specs.laws.StaticCauses.{IsRefusedOnlyBy}
 use Rattle.td_tree.specs.declared.cause.Cause.{Cause}
 use Rattle.td_tree.specs.declared.cause.Cause.TheVariants as causes
-use Rattle.td_tree.specs.Outcomes.{Has, Outcome, Valued, Refused, Only, gathered, value_if, with_both, with_value}
-use Rattle.td_types.specs.Types.{Heading, Type', unpack}
-use Rattle.td_types.specs.Types as types
+use Rattle.td_tree.specs.model.Outcomes.{Has, Outcome, Valued, Refused, Only, gathered, value_if, with_both, with_value}
+use Rattle.td_types.specs.model.Types.{Heading, Type', unpack}
+use Rattle.td_types.specs.model.Types as types
 
 module _ (P : Cause → Type 0) where
   pub by_one : (c : Cause) → P c → (d : Cause) → Has (Only c) d → P d

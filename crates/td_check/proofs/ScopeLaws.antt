@@ -8,10 +8,10 @@ use Rattle.td_check.specs.code.LentScopes.{known_as, lent_scope}
 use Rattle.td_check.specs.declared.declared.Declared.{Declared}
 use Rattle.td_check.specs.declared.scope.Kind.{Kind}
 use Rattle.td_check.specs.declared.scope.Kind.TheVariants.{Base, Virtual}
-use Rattle.td_check.specs.Scopes.{KnownRelvar, Scope, alone_with, entered_with, without_innermost, relvar_in, scope_of, with_known_constraint, with_known_relvar}
-use Rattle.td_check.specs.StaticLaws.{IsKnownHeading, IsScope, ScopesAreKept}
-use Rattle.td_types.specs.TypeLists.{AreDeclared, DeclaredType}
-use Rattle.td_types.specs.Types.{Heading, same_name}
+use Rattle.td_check.specs.model.Scopes.{KnownRelvar, Scope, alone_with, entered_with, without_innermost, relvar_in, scope_of, with_known_constraint, with_known_relvar}
+use Rattle.td_check.specs.laws.StaticLaws.{IsKnownHeading, IsScope, ScopesAreKept}
+use Rattle.td_types.specs.model.TypeLists.{AreDeclared, DeclaredType}
+use Rattle.td_types.specs.model.Types.{Heading, same_name}
 use Rattle.td_check.proofs.AgreementLaws.{only_one}
 
 nothing_there : {A : Type 0} (x : A) → Contains [] x → ⊥

@@ -7,16 +7,16 @@ use Rattle.std.proofs.lemmas.List.{map-append}
 use Rattle.indexmap.specs.IndexMap.{IndexMap, insert_entry}
 use Rattle.indexmap.specs.IndexSet.{insert_key}
 use Rattle.indexmap.proofs.CallerLemmas.{insert_entry-new}
-use Rattle.td_types.specs.Headings.{has_name}
+use Rattle.td_types.specs.model.Headings.{has_name}
 use Rattle.std.specs.Map.{lookup}
 use Rattle.td_check.specs.code.ScopeCode.{known_view, known_relvar_view, relvars_view}
-use Rattle.td_check.specs.Scopes.{kind_and_heading, relvar_in}
-use Rattle.td_check.specs.declared.scope.Known.{Known}
-use Rattle.td_types.specs.Types.{same_name}
+use Rattle.td_check.specs.model.Scopes.{kind_and_heading, relvar_in}
+use Rattle.td_check.specs.declared.scope.KindAndHeading.{KindAndHeading}
+use Rattle.td_types.specs.model.Types.{same_name}
 use Rattle.td_types.proofs.HeadingLaws.{same_name-flips}
 
 -- a name finds a row where it finds a relvar
-pub found : (name : List ℕ) (rows : List (List ℕ × Known)) → is_some (lookup (same_name name) rows) ≡ is_some (relvar_in name (relvars_view rows))
+pub found : (name : List ℕ) (rows : List (List ℕ × KindAndHeading)) → is_some (lookup (same_name name) rows) ≡ is_some (relvar_in name (relvars_view rows))
 found name [] = refl
 found name (row ∷ rows) = by_test (found name rows) (same_name name row.0) refl
   where
@@ -35,7 +35,7 @@ of_references f None = refl
 of_references f (Some k) = refl
 
 -- what it finds of both
-pub kept : (name : List ℕ) (rows : List (List ℕ × Known))
+pub kept : (name : List ℕ) (rows : List (List ℕ × KindAndHeading))
     → option_map known_view (lookup (same_name name) rows) ≡ option_map kind_and_heading (relvar_in name (relvars_view rows))
 kept name [] = refl
 kept name (row ∷ rows) = by_test (kept name rows) (same_name name row.0) refl
@@ -51,16 +51,16 @@ kept name (row ∷ rows) = by_test (kept name rows) (same_name name row.0) refl
         rw (is, same) rest
 
 -- where no relvar has the name, no row has it
-pub row_missing : (name : List ℕ) (rows : List (List ℕ × Known)) → not (is_some (relvar_in name (relvars_view rows))) ≡ true
+pub row_missing : (name : List ℕ) (rows : List (List ℕ × KindAndHeading)) → not (is_some (relvar_in name (relvars_view rows))) ≡ true
     → lookup (same_name name) rows ≡ None
 row_missing name rows h = by_option (lookup (same_name name) rows) (ap not (found name rows) ∙ h)
   where
-    by_option : (o : Option Known) → not (is_some o) ≡ true → o ≡ None
+    by_option : (o : Option KindAndHeading) → not (is_some o) ≡ true → o ≡ None
     by_option None e = refl
     by_option (Some known) e = absurd (cc)
 
 -- one more relvar stands last
-pub relvar_added : {S : Type 0} (m : IndexMap (List ℕ) Known S) (name : List ℕ) (known : Known)
+pub relvar_added : {S : Type 0} (m : IndexMap (List ℕ) KindAndHeading S) (name : List ℕ) (known : KindAndHeading)
     → not (is_some (relvar_in name (relvars_view m.entries))) ≡ true
     → relvars_view (insert_entry same_name m.entries name known) ≡ relvars_view m.entries ++ (known_relvar_view (name, known) ∷ [])
 relvar_added m name known h =

@@ -5,21 +5,21 @@ use Rattle.std.proofs.lemmas.List.{map-append, take_all, take_more}
 use Rattle.std.specs.Option.{option_copied}
 use Rattle.std.specs.Prelude.{Bool, true, false, ⊤}
 use Rattle.td_check.proofs.Scopes.{of_references}
-use Rattle.td_check.specs.Scopes.{Scope}
-use Rattle.td_check.specs.StatementTypes.{both_hold, components_meant, condition_fits, constraint_fits, has_key, heading_rank_fits, init_fits, keys_asked, rank_fits, settings_fit, type_if_given}
+use Rattle.td_check.specs.model.Scopes.{Scope}
+use Rattle.td_check.specs.model.StatementTypes.{both_hold, components_meant, condition_fits, constraint_fits, has_key, heading_rank_fits, init_fits, keys_asked, rank_fits, settings_fit, type_if_given}
 use Rattle.td_tree.specs.declared.cause.Cause.{Cause}
 use Rattle.td_tree.specs.declared.cause.Cause.TheVariants as causes
 use Rattle.td_tree.specs.declared.fault.Fault.{Fault}
 use Rattle.td_tree.specs.declared.fault.Fault.TheVariants as faults
-use Rattle.td_tree.specs.Gatherings.{IsGathered, IsRest, answer_of, both_answers, cause_of, lesser_cause, lesser_fault}
-use Rattle.td_tree.specs.Outcomes.{Answers, Outcome, Valued, Refused, gathered, lesser, named_cause, value_if, with_both, with_value}
-use Rattle.td_tree.specs.Outcomes as outcomes
-use Rattle.td_tree.specs.Trees.{AttributeTrees, Tree}
+use Rattle.td_tree.specs.code.Gatherings.{IsGathered, IsRest, answer_of, both_answers, cause_of, lesser_cause, lesser_fault}
+use Rattle.td_tree.specs.model.Outcomes.{Answers, Outcome, Valued, Refused, gathered, lesser, named_cause, value_if, with_both, with_value}
+use Rattle.td_tree.specs.model.Outcomes as outcomes
+use Rattle.td_tree.specs.model.Trees.{AttributeTrees, Tree}
 use Rattle.td_tree.specs.code.TreeViews.{tree_view}
 use Rattle.td_tree.specs.declared.expression.Expr.{Expr}
-use Rattle.td_types.specs.Headings.{are_distinct, heading_from, made_heading}
-use Rattle.td_types.specs.TypeLists.{DeclaredType, attributes_meant}
-use Rattle.td_types.specs.Types.{Attribute, Heading, Type', attribute_names}
+use Rattle.td_types.specs.model.Headings.{are_distinct, heading_from, made_heading}
+use Rattle.td_types.specs.model.TypeLists.{DeclaredType, attributes_meant}
+use Rattle.td_types.specs.model.Types.{Attribute, Heading, Type', attribute_names}
 use Rattle.td_types.specs.code.Views.{type_view}
 use Rattle.td_types.specs.declared.ty.Ty.{Ty}
 use Rattle.td_types.proofs.OutcomeLaws.{value_of_test}

@@ -3,20 +3,20 @@ use Rattle.std.proofs.Common.{◌∷◌, Bool, true, false, ℕ, List, [], fold,
 use Rattle.std.specs.Prelude.{⊤, if◌then◌else◌}
 use Rattle.td_check.specs.declared.scope.Kind.{Kind}
 use Rattle.td_check.specs.declared.scope.Kind.TheVariants as kinds
-use Rattle.td_check.specs.OperatorTypes.{over_relation}
-use Rattle.td_check.specs.Scopes.{KnownRelvar, Scope, entered_with, known_relvar}
-use Rattle.td_check.specs.StatementTypes.{assignment_checked, both_hold, condition_fits, constraint_fits, components_meant, has_key, holds_or, in_target, init_fits, is_target, keys_allowed, keys_asked, relation_fits, setting_fits, settings_fit, source_fits, statement_checked, type_if_given, type_rank_fits}
-use Rattle.td_check.specs.StaticCauses.{CausesAreStatic, IsExpressionCause, IsRefusedOnlyBy, IsStatementCause, IsTypeCause}
-use Rattle.td_check.specs.StaticTypes.{named_types, type_of}
+use Rattle.td_check.specs.model.OperatorTypes.{over_relation}
+use Rattle.td_check.specs.model.Scopes.{KnownRelvar, Scope, entered_with, known_relvar}
+use Rattle.td_check.specs.model.StatementTypes.{assignment_checked, both_hold, condition_fits, constraint_fits, components_meant, has_key, holds_or, in_target, init_fits, is_target, keys_allowed, keys_asked, relation_fits, setting_fits, settings_fit, source_fits, statement_checked, type_if_given, type_rank_fits}
+use Rattle.td_check.specs.laws.StaticCauses.{CausesAreStatic, IsExpressionCause, IsRefusedOnlyBy, IsStatementCause, IsTypeCause}
+use Rattle.td_check.specs.model.StaticTypes.{named_types, type_of}
 use Rattle.td_check.proofs.ExpressionCauses.{attributes_refused, expression_refused, heading_refused, parts_refused, type_refused}
 use Rattle.td_check.proofs.Refusals.{by_both, by_each, by_known, by_one, by_relation, by_test, by_value}
 use Rattle.td_tree.specs.declared.cause.Cause.{Cause}
 use Rattle.td_tree.specs.declared.cause.Cause.TheVariants as causes
-use Rattle.td_tree.specs.Outcomes.{Outcome, Valued, Refused, Only}
-use Rattle.td_tree.specs.Trees.{Assignment, assign, insert, disjoint_insert, delete, included_delete, update, AttributeTrees, Tree, Statement, empty, define_type, drop_type, define_base, define_virtual, drop_var, define_constraint, drop_constraint, assign_all, begin_transaction, commit, rollback, write, dump}
-use Rattle.td_types.specs.TypeLists.{DeclaredType, attributes_meant, greatest_rank, heading_meant, limited_rank, rank_of, rank_over, user_ranks, with_rank}
-use Rattle.td_types.specs.Types.{Attribute, Attrs, Heading, Type', attr, no_attrs, pack, same_name, type_at}
-use Rattle.td_types.specs.Types as types
+use Rattle.td_tree.specs.model.Outcomes.{Outcome, Valued, Refused, Only}
+use Rattle.td_tree.specs.model.Trees.{Assignment, assign, insert, disjoint_insert, delete, included_delete, update, AttributeTrees, Tree, Statement, empty, define_type, drop_type, define_base, define_virtual, drop_var, define_constraint, drop_constraint, assign_all, begin_transaction, commit, rollback, write, dump}
+use Rattle.td_types.specs.model.TypeLists.{DeclaredType, attributes_meant, greatest_rank, heading_meant, limited_rank, rank_of, rank_over, user_ranks, with_rank}
+use Rattle.td_types.specs.model.Types.{Attribute, Attrs, Heading, Type', attr, no_attrs, pack, same_name, type_at}
+use Rattle.td_types.specs.model.Types as types
 
 -- ---- every statement
 

@@ -3,15 +3,15 @@ use Rattle.std.proofs.Common.{◌≡◌, ◌∙◌, ◌∷◌, ◌++◌, ℕ, Bo
 use Rattle.std.specs.Prelude.{not}
 use Rattle.std.specs.Cmp.Lexicographic.{same_text}
 use Rattle.std.specs.List.{AllByRecursion, Contains}
-use Rattle.td_check.specs.Mentions.{relvars_in, types_in}
-use Rattle.td_check.specs.Scopes.{KnownRelvar, Scope, relvar_in}
-use Rattle.td_check.specs.StaticLaws.{AgreeAt, AgreeOn, DropsChangeNothing, HasMore, LacksRelvar, LacksType, MentionsAreKnown, MoreChangesNothing, TypesAreKnown, TypesAreMadeOfMentions, TypesDependOnMentions, UsersAllIn, UsersIn, is_other}
-use Rattle.td_check.specs.StaticTypes.{named_types, type_of, types_of}
-use Rattle.td_tree.specs.Names.{IsName}
-use Rattle.td_tree.specs.Outcomes.{Outcome, Valued}
-use Rattle.td_tree.specs.Trees.{NamedTrees}
-use Rattle.td_types.specs.TypeLists.{DeclaredType, IsKnown, declared_at}
-use Rattle.td_types.specs.Types.{Attribute, Attrs, IsType, Type', attr, boolean, char, integer, no_attrs, pack, relation, same_name, tuple, user}
+use Rattle.td_check.specs.model.Mentions.{relvars_in, types_in}
+use Rattle.td_check.specs.model.Scopes.{KnownRelvar, Scope, relvar_in}
+use Rattle.td_check.specs.laws.StaticLaws.{AgreeAt, AgreeOn, DropsChangeNothing, HasMore, LacksRelvar, LacksType, MentionsAreKnown, MoreChangesNothing, TypesAreKnown, TypesAreMadeOfMentions, TypesDependOnMentions, UsersAllIn, UsersIn, is_other}
+use Rattle.td_check.specs.model.StaticTypes.{named_types, type_of, types_of}
+use Rattle.td_tree.specs.model.Names.{IsName}
+use Rattle.td_tree.specs.model.Outcomes.{Outcome, Valued}
+use Rattle.td_tree.specs.model.Trees.{NamedTrees}
+use Rattle.td_types.specs.model.TypeLists.{DeclaredType, IsKnown, declared_at}
+use Rattle.td_types.specs.model.Types.{Attribute, Attrs, IsType, Type', attr, boolean, char, integer, no_attrs, pack, relation, same_name, tuple, user}
 use Rattle.td_types.proofs.HeadingLaws.{same_name-itself}
 use Rattle.td_types.proofs.KnownTypes.{declared_more}
 use Rattle.td_check.proofs.DeclaredUsers.{users_declared}

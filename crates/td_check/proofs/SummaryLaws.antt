@@ -1,11 +1,11 @@
 -- SUMMARIZE's operand with its items, in two scopes that agree on what is mentioned.
 use Rattle.std.proofs.Common.{◌≡◌, ◌∙◌, ◌++◌, ℕ, List, Option, Some, None, ap, refl, subst, sym}
-use Rattle.td_check.specs.Mentions.{in_tuples}
-use Rattle.td_check.specs.OperatorTypes.{Item, mismatch}
-use Rattle.td_check.specs.Scopes.{Scope}
-use Rattle.td_check.specs.StaticTypes.{with_items}
-use Rattle.td_tree.specs.Outcomes.{Outcome, Valued, with_both, with_value}
-use Rattle.td_types.specs.Types.{Attrs, Heading, Type', boolean, char, integer, relation, tuple, unpack, user}
+use Rattle.td_check.specs.model.Mentions.{in_tuples}
+use Rattle.td_check.specs.model.OperatorTypes.{Item, mismatch}
+use Rattle.td_check.specs.model.Scopes.{Scope}
+use Rattle.td_check.specs.model.StaticTypes.{with_items}
+use Rattle.td_tree.specs.model.Outcomes.{Outcome, Valued, with_both, with_value}
+use Rattle.td_types.specs.model.Types.{Attrs, Heading, Type', boolean, char, integer, relation, tuple, unpack, user}
 use Rattle.td_types.proofs.OutcomeLaws.{value_of_with, values_of_both}
 use Rattle.td_check.proofs.CarriedLaws.{Carries, CarriesWithin, Each, Follows, names_within}
 

@@ -5,9 +5,9 @@ use Rattle.std.specs.List.{filter}
 use Rattle.std.specs.FinMap.Entries.{by_order}
 use Rattle.std.specs.declared.cmp.Ordering.{Ordering}
 use Rattle.std.specs.declared.cmp.Ordering.TheVariants.{Less, Equal, Greater}
-use Rattle.td_check.specs.StaticLaws.{UsersAllIn, UsersIn}
-use Rattle.td_types.specs.Headings.{with_attribute}
-use Rattle.td_types.specs.Types.{Attribute, Attrs, Heading, pack, unpack}
+use Rattle.td_check.specs.laws.StaticLaws.{UsersAllIn, UsersIn}
+use Rattle.td_types.specs.model.Headings.{with_attribute}
+use Rattle.td_types.specs.model.Types.{Attribute, Attrs, Heading, pack, unpack}
 use Rattle.td_types.proofs.HeadingLaws.{name_cmp}
 use Rattle.td_types.proofs.Meanings.{pack_unpack}
 use Rattle.td_check.proofs.OperatorLaws.{IsClosed}

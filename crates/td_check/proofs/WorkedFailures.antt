@@ -2,18 +2,18 @@
 -- base relvar R and a virtual one V, both of the heading {A INTEGER}.
 use Rattle.std.proofs.Common.{◌≡◌, [], ◌∷◌, Some, false, true, refl}
 use Rattle.std.specs.Prelude.{codes}
-use Rattle.td_check.specs.CannotFail.{cannot_fail}
-use Rattle.td_check.specs.Scopes.{Scope}
+use Rattle.td_check.specs.laws.CannotFail.{cannot_fail}
+use Rattle.td_check.specs.model.Scopes.{Scope}
 use Rattle.td_check.specs.declared.scope.Kind.TheVariants.{Base, Virtual}
-use Rattle.td_tree.specs.Trees.{Tree, literal, number, truth, name, compare, binary, postfix, extend_setting, binding, more_named, none_named, headed_relation, attribute, no_attributes, measure, more, none, select, prefix, rename, restriction}
-use Rattle.td_tree.specs.Trees as trees
+use Rattle.td_tree.specs.model.Trees.{Tree, literal, number, truth, name, compare, binary, postfix, extend_setting, binding, more_named, none_named, headed_relation, attribute, no_attributes, measure, more, none, select, prefix, rename, restriction}
+use Rattle.td_tree.specs.model.Trees as trees
 use Rattle.td_tree.specs.declared.operator.Comparison.TheVariants.{Equal}
 use Rattle.td_tree.specs.declared.operator.Measure.TheVariants.{Count, IsEmpty}
 use Rattle.td_tree.specs.declared.operator.Operator.TheVariants.{DisjointUnion, Divide, IncludedMinus, Union}
 use Rattle.td_tree.specs.declared.operator.Prefix.TheVariants.{Negate}
 use Rattle.td_tree.specs.declared.operator.Style.TheVariants.{Older}
-use Rattle.td_types.specs.TypeLists.{declared_type}
-use Rattle.td_types.specs.Types.{integer}
+use Rattle.td_types.specs.model.TypeLists.{declared_type}
+use Rattle.td_types.specs.model.Types.{integer}
 
 abbrev scope : Scope
 scope =

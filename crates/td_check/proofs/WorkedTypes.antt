@@ -2,21 +2,21 @@
 -- base relvar R of the heading {K INTEGER} and a virtual one V of the heading {K INTEGER, S CHAR}.
 use Rattle.std.proofs.Common.{◌≡◌, [], ◌∷◌, Some, None, refl, false}
 use Rattle.std.specs.Prelude.{codes}
-use Rattle.td_check.specs.Mentions.{relvars_in}
-use Rattle.td_check.specs.Scopes.{Scope}
-use Rattle.td_check.specs.StatementTypes.{statement_checked}
-use Rattle.td_check.specs.StaticTypes.{type_of}
+use Rattle.td_check.specs.model.Mentions.{relvars_in}
+use Rattle.td_check.specs.model.Scopes.{Scope}
+use Rattle.td_check.specs.model.StatementTypes.{statement_checked}
+use Rattle.td_check.specs.model.StaticTypes.{type_of}
 use Rattle.td_check.specs.declared.scope.Kind.TheVariants.{Base, Virtual}
-use Rattle.td_tree.specs.Outcomes.{Valued, named_cause}
-use Rattle.td_tree.specs.Trees.{Tree, literal, number, text, name, parentheses, compare, binary, postfix, project, only, extend, extend_setting, binding, more_named, none_named, AttributeTrees, attribute, no_attributes, define_base, define_virtual, assign_all, assign, insert, disjoint_insert, included_delete, update, summarize_per, summed, no_summaries, more, none, select, rename, restriction}
-use Rattle.td_tree.specs.Trees as trees
+use Rattle.td_tree.specs.model.Outcomes.{Valued, named_cause}
+use Rattle.td_tree.specs.model.Trees.{Tree, literal, number, text, name, parentheses, compare, binary, postfix, project, only, extend, extend_setting, binding, more_named, none_named, AttributeTrees, attribute, no_attributes, define_base, define_virtual, assign_all, assign, insert, disjoint_insert, included_delete, update, summarize_per, summed, no_summaries, more, none, select, rename, restriction}
+use Rattle.td_tree.specs.model.Trees as trees
 use Rattle.td_tree.specs.declared.cause.Cause.TheVariants as causes
 use Rattle.td_tree.specs.declared.operator.Aggregate.TheVariants.{Sum}
 use Rattle.td_tree.specs.declared.operator.Comparison.TheVariants.{Equal}
 use Rattle.td_tree.specs.declared.operator.Operator.TheVariants.{Add, DisjointUnion, IncludedMinus, Times}
 use Rattle.td_tree.specs.declared.operator.Style.TheVariants.{Newer, Older}
-use Rattle.td_types.specs.Types.{Heading, integer, char, pack}
-use Rattle.td_types.specs.Types as types
+use Rattle.td_types.specs.model.Types.{Heading, integer, char, pack}
+use Rattle.td_types.specs.model.Types as types
 
 abbrev scope : Scope
 scope =

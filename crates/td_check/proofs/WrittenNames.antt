@@ -5,11 +5,11 @@ use Rattle.std.specs.Prelude.{if◌then◌else◌, is_some}
 use Rattle.std.specs.List.{Contains}
 use Rattle.std.proofs.lemmas.List.{append-nil, append_assoc, take_all}
 use Rattle.std.proofs.lemmas.List.Elements.{Contains-append_cases, Contains-append_left, Contains-append_right}
-use Rattle.td_check.specs.Mentions.{behind_item, in_tuples, mentioned_by_name, relvars_in, relvars_in_all, relvars_in_items, relvars_in_named, relvars_where_bound}
-use Rattle.td_check.specs.Scopes.{Scope, innermost, known_relvar}
-use Rattle.td_check.specs.StaticLaws.{RelvarsAreNamed}
-use Rattle.td_check.specs.StaticTypes.{type_of}
-use Rattle.td_check.specs.WrittenNames.{names_in, names_in_all, names_in_items, names_in_named}
+use Rattle.td_check.specs.model.Mentions.{behind_item, in_tuples, mentioned_by_name, relvars_in, relvars_in_all, relvars_in_items, relvars_in_named, relvars_where_bound}
+use Rattle.td_check.specs.model.Scopes.{Scope, innermost, known_relvar}
+use Rattle.td_check.specs.laws.StaticLaws.{RelvarsAreNamed}
+use Rattle.td_check.specs.model.StaticTypes.{type_of}
+use Rattle.td_check.specs.laws.WrittenNames.{names_in, names_in_all, names_in_items, names_in_named}
 use Rattle.td_check.proofs.CheckedLists.{of_each, of_each_last, step_taken}
 use Rattle.td_tree.specs.declared.expression.Expr.{Expr}
 use Rattle.td_tree.specs.declared.expression.Expr.TheVariants as x
@@ -18,7 +18,7 @@ use Rattle.td_tree.specs.declared.expression.Summary.{Summary}
 use Rattle.td_tree.specs.declared.expression.Summary.TheVariants as s
 use Rattle.td_tree.specs.declared.type_tree.AttributeTree.{AttributeTree}
 use Rattle.td_tree.specs.code.TreeViews.{named_view, summaries_view, tree_view, trees_view}
-use Rattle.td_tree.specs.Trees.{Tree, literal, name, parentheses, prefix, extract, restriction, binary, compare, postfix, select, component, measure, aggregate, relation, headed_relation, tuple, extend, extend_setting, summarize_per, summarize_by, choice, binding, Trees, none, more, NamedTrees, none_named, more_named, Summaries, no_summaries, counted, summed}
+use Rattle.td_tree.specs.model.Trees.{Tree, literal, name, parentheses, prefix, extract, restriction, binary, compare, postfix, select, component, measure, aggregate, relation, headed_relation, tuple, extend, extend_setting, summarize_per, summarize_by, choice, binding, Trees, none, more, NamedTrees, none_named, more_named, Summaries, no_summaries, counted, summed}
 use Rattle.td_tree.proofs.code_lemmas.Rows.{extend_is, extend_setting_is, headed_relation_is, relation_is, select_is}
 
 -- ---- one part after another

@@ -1,10 +1,3 @@
-pub mod CannotFail
-pub mod Mentions
-pub mod OperatorTypes
-pub mod Scopes
-pub mod StatementTypes
-pub mod StaticCauses
-pub mod StaticLaws
-pub mod StaticTypes
-pub mod WrittenNames
 pub mod code
+pub mod laws
+pub mod model

@@ -1,7 +1,7 @@
 //! Elements of a relation that are alike: tuples of literals with the same names, in the same
 //! order, and the same types. They have one type, so that the first alone is looked at.
 ghost use Rattle.std.specs.Prelude.{◌≡◌, ℕ, IsTrue, take};
-ghost use Rattle.td_check.specs.StaticTypes.{literal_type};
+ghost use Rattle.td_check.specs.model.StaticTypes.{literal_type};
 ghost use Rattle.td_check.specs.code.Alike.{AreEnough, AreLike, AreLikeLiterals, AreLikeTuples};
 ghost use Rattle.td_check.specs.code.Alike.{IsLikeTuple};
 ghost use Rattle.td_tree.specs.code.TreeViews.{literal_view, named_view, tree_view, trees_view};

@@ -1,12 +1,12 @@
 //! Whether an expression cannot fail.
 ghost use Rattle.std.specs.Prelude.{◌≡◌};
-ghost use Rattle.td_check.specs.CannotFail.{all_unfailing, cannot_fail_of};
-ghost use Rattle.td_check.specs.CannotFail.{items_cannot_fail, measure_cannot_fail};
-ghost use Rattle.td_check.specs.CannotFail.{unfailing};
-ghost use Rattle.td_check.specs.CannotFail.{operator_cannot_fail, parts_unfailing};
-ghost use Rattle.td_check.specs.CannotFail.{prefix_cannot_fail, relvar_cannot_fail};
-ghost use Rattle.td_check.specs.CannotFail.{relvars_cannot_fail, selector_cannot_fail};
-ghost use Rattle.td_tree.specs.Outcomes.{Answers};
+ghost use Rattle.td_check.specs.laws.CannotFail.{all_unfailing, cannot_fail_of};
+ghost use Rattle.td_check.specs.laws.CannotFail.{items_cannot_fail, measure_cannot_fail};
+ghost use Rattle.td_check.specs.laws.CannotFail.{unfailing};
+ghost use Rattle.td_check.specs.laws.CannotFail.{operator_cannot_fail, parts_unfailing};
+ghost use Rattle.td_check.specs.laws.CannotFail.{prefix_cannot_fail, relvar_cannot_fail};
+ghost use Rattle.td_check.specs.laws.CannotFail.{relvars_cannot_fail, selector_cannot_fail};
+ghost use Rattle.td_tree.specs.model.Outcomes.{Answers};
 ghost use Rattle.td_tree.specs.code.TreeViews.{named_view, summaries_view, tree_view, trees_view};
 
 use crate::expression::names_seen;

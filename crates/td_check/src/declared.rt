@@ -3,8 +3,8 @@ ghost use Rattle.std.specs.Map.{lookup};
 ghost use Rattle.std.specs.Prelude.{◌≡◌, [], option_map, take};
 ghost use Rattle.td_check.specs.code.LentScopes.{declared_relvars};
 ghost use Rattle.td_check.specs.code.ScopeCode.{seen_view};
-ghost use Rattle.td_check.specs.Scopes.{kind_and_heading, relvar_in};
-ghost use Rattle.td_types.specs.Types.{same_name};
+ghost use Rattle.td_check.specs.model.Scopes.{kind_and_heading, relvar_in};
+ghost use Rattle.td_types.specs.model.Types.{same_name};
 
 use crate::scope::Kind;
 use indexmap::{IndexMap, IndexSet};

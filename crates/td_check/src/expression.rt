@@ -4,37 +4,37 @@ ghost use Rattle.td_check.specs.code.CheckViews.{added_view, bound_found, bounds
 ghost use Rattle.td_check.specs.code.CheckViews.{item_found, names_view, part_found};
 ghost use Rattle.td_check.specs.code.CheckViews.{with_names};
 ghost use Rattle.td_check.specs.code.ItemViews.{items_view, named_item_view};
-ghost use Rattle.td_check.specs.Mentions.{in_tuples, mentioned_by_name, relvars_in, relvars_in_all};
-ghost use Rattle.td_check.specs.Mentions.{relvars_in_items, relvars_in_named};
-ghost use Rattle.td_check.specs.Mentions.{relvars_where_bound, types_in};
-ghost use Rattle.td_check.specs.Mentions.{types_in_all, types_in_items, types_in_named};
-ghost use Rattle.td_check.specs.OperatorTypes.{over_relation};
+ghost use Rattle.td_check.specs.model.Mentions.{in_tuples, mentioned_by_name, relvars_in};
+ghost use Rattle.td_check.specs.model.Mentions.{relvars_in_all, relvars_in_items, relvars_in_named};
+ghost use Rattle.td_check.specs.model.Mentions.{relvars_where_bound, types_in, types_in_all};
+ghost use Rattle.td_check.specs.model.Mentions.{types_in_items, types_in_named};
+ghost use Rattle.td_check.specs.model.OperatorTypes.{over_relation};
 ghost use Rattle.td_check.specs.code.PlaceViews.{is_bound, scope_at, within_all};
-ghost use Rattle.td_check.specs.Scopes.{entered_with};
-ghost use Rattle.td_check.specs.StaticTypes.{items_of, name_type, named_types, type_of, types_of};
-ghost use Rattle.td_check.specs.StaticTypes.{with_items};
+ghost use Rattle.td_check.specs.model.Scopes.{entered_with};
+ghost use Rattle.td_check.specs.model.StaticTypes.{items_of, name_type, named_types, type_of};
+ghost use Rattle.td_check.specs.model.StaticTypes.{types_of, with_items};
 ghost use Rattle.td_check.specs.code.Alike.{AreEnough};
-ghost use Rattle.td_tree.specs.Trees.{Trees};
-ghost use Rattle.td_tree.specs.Outcomes.{Answers, Outcome, Valued, with_value};
+ghost use Rattle.td_tree.specs.model.Trees.{Trees};
+ghost use Rattle.td_tree.specs.model.Outcomes.{Answers, Outcome, Valued, with_value};
 ghost use Rattle.td_tree.specs.code.TreeViews.{named_view, summaries_view, tree_view, trees_view};
 ghost use Rattle.td_types.specs.code.Pairs.{pair_view};
-ghost use Rattle.td_types.specs.Types.{IsType, Type'};
+ghost use Rattle.td_types.specs.model.Types.{IsType, Type'};
 ghost use Rattle.td_types.specs.code.Views.{pairs_view, type_view};
 
 use crate::alike::but_for_alike;
 use crate::mentioned::{Mentions, add_types_in};
+use crate::nodes::{
+    by_attributes, per_relation, type_of_choice, type_of_comparison, type_of_extension,
+    type_of_headed, type_of_operator, type_of_restriction, type_of_setting,
+};
 use crate::place::Place;
-use crate::rules::asked::{ask, relation_heading};
 use crate::rules::lists::{Item, listed_type, selector_type, tuple_type};
 use crate::rules::operand::{
     aggregate_type, component_type, extracted_type, literal_type, measure_type, prefix_type,
 };
 use crate::rules::postfix::postfix_type;
+use crate::rules::requirements::{ask, relation_heading};
 use crate::scope::Scope;
-use crate::together::{
-    by_attributes, per_relation, type_of_choice, type_of_comparison, type_of_extension,
-    type_of_headed, type_of_operator, type_of_restriction, type_of_setting,
-};
 use td_tree::cause::Cause;
 use td_tree::expression::{Expr, NamedExpr, Summary};
 use td_tree::fault::Fault;

@@ -1,10 +1,10 @@
 //! What the types of expressions are to their callers: each function has its contract alone.
-ghost use Rattle.td_check.specs.StaticCauses.{CausesAreStatic};
-ghost use Rattle.td_check.specs.StaticLaws.{DropsChangeNothing, MentionsAreKnown};
-ghost use Rattle.td_check.specs.StaticLaws.{MoreChangesNothing, NamesAreASet, RelvarsAreNamed};
-ghost use Rattle.td_check.specs.StaticLaws.{ScopesAreKept};
-ghost use Rattle.td_check.specs.StaticLaws.{TypesAreKnown, TypesAreMadeOfMentions};
-ghost use Rattle.td_check.specs.StaticLaws.{TypesDependOnMentions};
+ghost use Rattle.td_check.specs.laws.StaticCauses.{CausesAreStatic};
+ghost use Rattle.td_check.specs.laws.StaticLaws.{DropsChangeNothing, MentionsAreKnown};
+ghost use Rattle.td_check.specs.laws.StaticLaws.{MoreChangesNothing, NamesAreASet, RelvarsAreNamed};
+ghost use Rattle.td_check.specs.laws.StaticLaws.{ScopesAreKept};
+ghost use Rattle.td_check.specs.laws.StaticLaws.{TypesAreKnown, TypesAreMadeOfMentions};
+ghost use Rattle.td_check.specs.laws.StaticLaws.{TypesDependOnMentions};
 
 /// The type of an expression is a type, and its user types are declared; scopes as they are made
 /// are such that it is.

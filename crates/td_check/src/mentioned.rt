@@ -1,7 +1,7 @@
 //! Names that are mentioned, and those of user types in a type.
 ghost use Rattle.std.specs.Prelude.{◌≡◌, ◌++◌, [], OnOk};
 ghost use Rattle.td_check.specs.code.CheckViews.{names_view};
-ghost use Rattle.td_check.specs.Mentions.{types_named, types_named_in};
+ghost use Rattle.td_check.specs.model.Mentions.{types_named, types_named_in};
 ghost use Rattle.td_tree.specs.code.TreeViews.{heading_tree_view, type_tree_view};
 
 use std::alloc::{AllocError, Global};

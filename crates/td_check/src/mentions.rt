@@ -4,8 +4,8 @@ ghost use Rattle.std.specs.Cmp.Lexicographic.{slice_cmp};
 ghost use Rattle.std.specs.List.Sorted.{IsStrictlySortedBy};
 ghost use Rattle.std.specs.Ordering.{nat_cmp};
 ghost use Rattle.td_check.specs.code.CheckViews.{names_view};
-ghost use Rattle.td_check.specs.Mentions.{mentions_of, name_set};
-ghost use Rattle.td_tree.specs.Outcomes.{Answers};
+ghost use Rattle.td_check.specs.model.Mentions.{mentions_of, name_set};
+ghost use Rattle.td_tree.specs.model.Outcomes.{Answers};
 ghost use Rattle.td_tree.specs.code.TreeViews.{tree_view};
 
 use crate::expression::names_seen;

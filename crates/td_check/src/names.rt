@@ -3,9 +3,9 @@ ghost use Rattle.std.specs.Cmp.Lexicographic.{slice_cmp};
 ghost use Rattle.std.specs.List.Sorted.{IsStrictlySortedBy};
 ghost use Rattle.std.specs.Ordering.{nat_cmp};
 ghost use Rattle.std.specs.Prelude.{◌≡◌, ◌∷◌, ◌++◌, [], IfOk, OnOk};
-ghost use Rattle.td_check.specs.Mentions.{name_set};
-ghost use Rattle.td_check.specs.WrittenNames.{names_in, names_in_all, names_in_items};
-ghost use Rattle.td_check.specs.WrittenNames.{names_in_named};
+ghost use Rattle.td_check.specs.model.Mentions.{name_set};
+ghost use Rattle.td_check.specs.laws.WrittenNames.{names_in, names_in_all, names_in_items};
+ghost use Rattle.td_check.specs.laws.WrittenNames.{names_in_named};
 ghost use Rattle.td_tree.specs.code.TreeViews.{named_view, summaries_view, tree_view, trees_view};
 
 use crate::mentions::name_set;

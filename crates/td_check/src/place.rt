@@ -2,7 +2,8 @@
 ghost use Rattle.std.specs.Prelude.{◌≡◌, ◌<◌, ◌^◌, IfOk, option_map};
 ghost use Rattle.td_check.specs.code.PlaceViews.{scope_at, within_all};
 ghost use Rattle.td_check.specs.code.ScopeCode.{seen_view};
-ghost use Rattle.td_check.specs.Scopes.{entered_with, innermost, kind_and_heading, known_relvar};
+ghost use Rattle.td_check.specs.model.Scopes.{entered_with, innermost, kind_and_heading};
+ghost use Rattle.td_check.specs.model.Scopes.{known_relvar};
 ghost use Rattle.td_types.specs.code.Views.{type_view};
 
 use crate::scope::{Kind, Scope};

@@ -3,10 +3,11 @@ ghost use Rattle.std.specs.Prelude.{◌≡◌, ◌↔◌, [], IfOk, IsTrue, OnEr
 ghost use Rattle.std.specs.Prelude.{option_map, reverse};
 ghost use Rattle.td_check.specs.code.LentScopes.{lent_scope};
 ghost use Rattle.td_check.specs.code.ScopeCode.{lent_constraints, lent_relvars, seen_view};
-ghost use Rattle.td_check.specs.Scopes.{entered_with, innermost, kind_and_heading, known_relvar};
-ghost use Rattle.td_check.specs.Scopes.{knows_constraint, without_innermost, relvar_in, scope_of};
-ghost use Rattle.td_check.specs.Scopes.{with_known_constraint, with_known_relvar};
-ghost use Rattle.td_types.specs.Headings.{has_name};
+ghost use Rattle.td_check.specs.model.Scopes.{entered_with, innermost, kind_and_heading};
+ghost use Rattle.td_check.specs.model.Scopes.{known_relvar, knows_constraint, relvar_in, scope_of};
+ghost use Rattle.td_check.specs.model.Scopes.{with_known_constraint, with_known_relvar};
+ghost use Rattle.td_check.specs.model.Scopes.{without_innermost};
+ghost use Rattle.td_types.specs.model.Headings.{has_name};
 ghost use Rattle.td_types.specs.code.Views.{type_view};
 
 use crate::declared::Declared;
@@ -29,7 +30,7 @@ pub enum Kind {
 
 /// What is known of a relvar beside its name.
 #[derive(Drop)]
-struct Known {
+struct KindAndHeading {
     kind: Kind,
     heading: Heading,
 }
@@ -41,7 +42,7 @@ pub struct Scope<'a> {
     /// What is declared, and how many of its virtual relvars are known.
     lent: Option<(&'a Declared, usize)>,
     /// The relvars that are known beside those of `lent`, and come after them.
-    relvars: IndexMap<Name, Known>,
+    relvars: IndexMap<Name, KindAndHeading>,
     constraints: IndexSet<Name>,
     /// The innermost is the last.
     entered: Vec<Heading>,
@@ -51,7 +52,7 @@ impl<'a> Model for Scope<'a> {
     ghost use Rattle.std.specs.Prelude.{◌++◌, reverse};
     ghost use Rattle.td_check.specs.code.ScopeCode.{lent_constraints, lent_relvars};
     ghost use Rattle.td_check.specs.code.ScopeCode.{relvars_view, scope_code};
-    ghost use Rattle.td_check.specs.Scopes.{Scope};
+    ghost use Rattle.td_check.specs.model.Scopes.{Scope};
 
     ghost Value = { Scope };
 
@@ -142,7 +143,9 @@ impl<'a> Scope<'a> {
         ensures { IfOk result (λ s. s ≡ with_known_relvar name kind heading self.entry) }
     {
         let mut scope = self;
-        scope.relvars.insert(name, Known { kind, heading })?;
+        scope
+            .relvars
+            .insert(name, KindAndHeading { kind, heading })?;
         Ok(scope)
     }
 

@@ -1,7 +1,7 @@
 //! What is required of a statement before anything is carried out.
-ghost use Rattle.td_check.specs.StaticTypes.{type_of};
-ghost use Rattle.td_check.specs.StatementTypes.{statement_checked};
-ghost use Rattle.td_tree.specs.Outcomes.{Answers, Valued, with_value};
+ghost use Rattle.td_check.specs.model.StaticTypes.{type_of};
+ghost use Rattle.td_check.specs.model.StatementTypes.{statement_checked};
+ghost use Rattle.td_tree.specs.model.Outcomes.{Answers, Valued, with_value};
 ghost use Rattle.td_tree.specs.code.TreeViews.{statement_view, tree_view};
 
 mod assignments;
@@ -10,7 +10,7 @@ mod parts;
 
 use crate::expression::check_at;
 use crate::place::Place;
-use crate::rules::asked::ask;
+use crate::rules::requirements::ask;
 use crate::scope::Scope;
 use assignments::check_assignments;
 use definitions::{define_base, define_constraint, define_type, define_virtual};

@@ -2,11 +2,12 @@ pub mod AddedTuples
 pub mod Advances
 pub mod ConstraintPlanLaws
 pub mod DeletedTuples
-pub mod Environments
 pub mod Done
 pub mod Endings
-pub mod FirstGifts
+pub mod Environments
+pub mod FirstAssigned
 pub mod GivenChanges
+pub mod ImageForms
 pub mod KeysInTurn
 pub mod LaterChecks
 pub mod LeftTuples
@@ -16,7 +17,7 @@ pub mod OneTarget
 pub mod Opens
 pub mod PlannableAssignments
 pub mod Plannables
-pub mod PutGifts
+pub mod PutAssigned
 pub mod StageLaws
 pub mod TargetChanges
 pub mod TestedChanges

@@ -1,15 +1,3 @@
-pub mod Additions
-pub mod Assignments
-pub mod Changes
-pub mod Checks
-pub mod Faults
-pub mod LeftOut
-pub mod Legality
-pub mod LegalityLaws
-pub mod Machine
-pub mod Rebuilding
-pub mod Refusals
-pub mod Scripts
-pub mod Standing
-pub mod Told
 pub mod code
+pub mod laws
+pub mod model

@@ -1,9 +1,9 @@
 pub mod AddedTuples
+pub mod AssignedRelations
 pub mod Carried
+pub mod Changes
 pub mod ConstraintPlans
-pub mod Gifts
 pub mod Plannable
-pub mod Restrictions
 pub mod Stages
 pub mod Steps
 pub mod Targets

@@ -2,8 +2,8 @@
 ghost use Rattle.std.specs.Prelude.{◌≡◌, ◌++◌, codes, IfOk, None, Some, IsTrue, IsFalse};
 ghost use Rattle.std.specs.String.{string_bytes};
 ghost use Rattle.td_tree.specs.declared.cause.Cause.TheVariants as causes;
-ghost use Rattle.td_engine.specs.Machine.{ok_text};
-ghost use Rattle.td_engine.specs.Refusals.{cause_text, line, named_text};
+ghost use Rattle.td_engine.specs.model.Machine.{ok_text};
+ghost use Rattle.td_engine.specs.model.Refusals.{cause_text, line, named_text};
 
 use std::alloc::{AllocError, Global};
 use td_tree::cause::Cause;

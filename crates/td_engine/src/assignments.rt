@@ -2,30 +2,32 @@
 ghost use Rattle.std.specs.Prelude.{◌≡◌, ◌+◌, ◌<◌, ◌∷◌, [], IfOk, IfSome, OnOk};
 ghost use Rattle.std.specs.Prelude.{length, map, slice_get};
 ghost use Rattle.std.specs.Map.{keys_of};
-ghost use Rattle.td_catalog.specs.Database.{Database, base_named, base_relvar, with_bases};
-ghost use Rattle.td_catalog.specs.Database.{with_body};
-ghost use Rattle.td_catalog.specs.TypedDatabases.{IsTyped};
-ghost use Rattle.td_engine.specs.Assignments.{assigned_database, given_by, target_of};
-ghost use Rattle.td_engine.specs.Assignments.{with_assignment, with_gift, with_gifts};
+ghost use Rattle.td_catalog.specs.model.Database.{Database, base_named, base_relvar, with_bases};
+ghost use Rattle.td_catalog.specs.model.Database.{with_body};
+ghost use Rattle.td_catalog.specs.model.TypedDatabases.{IsTyped};
+ghost use Rattle.td_engine.specs.model.Assignments.{assigned_database, given_by, target_of};
+ghost use Rattle.td_engine.specs.model.Assignments.{with_all_assigned, with_assigned};
+ghost use Rattle.td_engine.specs.model.Assignments.{with_assignment};
 ghost use Rattle.td_engine.specs.code.AddedTuples.{AreTestedByAdditions};
 ghost use Rattle.td_engine.specs.code.Carried.{Changes, IsAdmitted, Passes};
-ghost use Rattle.td_engine.specs.Changes.{AreChanges, AreTypedChanges, IsChangeOf, IsTypedChange};
-ghost use Rattle.td_engine.specs.Changes.{IsOfHeading, changed_by, given_as};
-ghost use Rattle.td_engine.specs.Changes.{gift_over, given_in};
-ghost use Rattle.td_engine.specs.Checks.{BasesHold, base_check, first_refusal};
+ghost use Rattle.td_engine.specs.code.Changes.{AreChanges, AreTypedChanges, IsChangeOf};
+ghost use Rattle.td_engine.specs.code.Changes.{IsOfHeading, IsTypedChange, assigned_over};
+ghost use Rattle.td_engine.specs.code.Changes.{changed_by, given_as, given_in};
+ghost use Rattle.td_engine.specs.model.Checks.{BasesHold, base_check, first_refusal};
 ghost use Rattle.td_engine.specs.code.ConstraintPlans.{AreKeptPlans};
-ghost use Rattle.td_engine.specs.code.Gifts.{AreGifts, IsGift, gift_of, gifted_bases};
-ghost use Rattle.td_engine.specs.LeftOut.{PassesElsewhere};
-ghost use Rattle.td_engine.specs.Machine.{by_outcome, checked_effect};
-ghost use Rattle.td_engine.specs.Legality.{IsLegal};
+ghost use Rattle.td_engine.specs.code.AssignedRelations.{AreAssigned, IsAssigned, assigned_of};
+ghost use Rattle.td_engine.specs.code.AssignedRelations.{assigned_bases};
+ghost use Rattle.td_engine.specs.laws.LeftOut.{PassesElsewhere};
+ghost use Rattle.td_engine.specs.model.Machine.{by_outcome, checked_effect};
+ghost use Rattle.td_engine.specs.model.Legality.{IsLegal};
 ghost use Rattle.td_engine.specs.code.Plannable.{IsAdmittedAssignment};
 ghost use Rattle.td_engine.specs.code.Stages.{GoesOn};
 ghost use Rattle.td_engine.specs.code.Targets.{IsTarget};
-ghost use Rattle.td_eval.specs.ReachedRelvars.{reached_from};
-ghost use Rattle.td_tree.specs.Outcomes.{Answers};
+ghost use Rattle.td_eval.specs.laws.ReachedRelvars.{reached_from};
+ghost use Rattle.td_tree.specs.model.Outcomes.{Answers};
 ghost use Rattle.td_tree.specs.code.TreeViews.{assignment_view, statement_view};
-ghost use Rattle.td_tree.specs.Trees.{assign_all};
-ghost use Rattle.td_value.specs.Values.{IsRelation};
+ghost use Rattle.td_tree.specs.model.Trees.{assign_all};
+ghost use Rattle.td_value.specs.model.Values.{IsRelation};
 
 use crate::added::Added;
 use crate::change::Change;
@@ -72,10 +74,10 @@ fn change_of_given<'c, B: Body>(
         (assignment_view assignment.now) }
     requires target { IsTarget B.relation B.keys target.now }
     requires named { target_of (assignment_view assignment.now) ≡ target.now.name.now }
-    requires gift { IsGift target.now.catalog.now.database
+    requires assigned { IsAssigned target.now.catalog.now.database
         (target.now.name.now, relation.now) }
     ensures answer { Answers (λ c. changed_by c relation.now) result
-        (gift_over target.now.catalog.now.database relation.now
+        (assigned_over target.now.catalog.now.database relation.now
         (assignment_view assignment.now)) }
     ensures headings { IfOk result (IsOfHeading relation.now.heading) }
 {
@@ -102,12 +104,12 @@ fn next_change<B: Body>(
     requires target { IsTarget B.relation B.keys target.now }
     requires named { target_of (assignment_view assignment.now) ≡ target.now.name.now }
     requires change { IsOfHeading (B.relation target.now.entry.now.body).heading change.now }
-    requires gift { IsGift target.now.catalog.now.database (
+    requires assigned { IsAssigned target.now.catalog.now.database (
       target.now.name.now,
       changed_by change.now (B.relation target.now.entry.now.body),
     ) }
     ensures answer { Answers (λ c. changed_by c (B.relation target.now.entry.now.body)) result
-        (gift_over target.now.catalog.now.database
+        (assigned_over target.now.catalog.now.database
         (changed_by change.now (B.relation target.now.entry.now.body))
         (assignment_view assignment.now)) }
     ensures headings { IfOk result
@@ -121,7 +123,7 @@ fn next_change<B: Body>(
 }
 
 /// What an assignment changes of its target.
-fn gift<'c, B: Body>(
+fn assigned<'c, B: Body>(
     alloc: Global,
     catalog: &'c Catalog<B>,
     given: &IndexMap<Name, Change>,
@@ -130,11 +132,11 @@ fn gift<'c, B: Body>(
     requires legal { IsLegal catalog.now.database }
     requires admitted { IsAdmittedAssignment catalog.now.database (assignment_view assignment.now) }
     requires changes { AreChanges catalog.now.database given.now.entries }
-    requires gifts { AreGifts catalog.now.database
+    requires all_assigned { AreAssigned catalog.now.database
         (given_in catalog.now.database given.now.entries) }
     ensures answer { Answers
         (given_as catalog.now.database (target_of (assignment_view assignment.now))) result
-        (gift_of catalog.now.database (given_in catalog.now.database given.now.entries)
+        (assigned_of catalog.now.database (given_in catalog.now.database given.now.entries)
         (assignment_view assignment.now)) }
     ensures change { IfOk result (λ c.
         IsChangeOf catalog.now.database (target_of (assignment_view assignment.now), c)) }
@@ -158,7 +160,7 @@ fn gift<'c, B: Body>(
 }
 
 /// Gives its target what an assignment gives.
-fn give<B: Body>(
+fn assign_one<B: Body>(
     alloc: Global,
     catalog: &Catalog<B>,
     given: &mut IndexMap<Name, Change>,
@@ -167,14 +169,14 @@ fn give<B: Body>(
     requires legal { IsLegal catalog.now.database }
     requires admitted { IsAdmittedAssignment catalog.now.database (assignment_view assignment.now) }
     requires changes { AreChanges catalog.now.database given.old.entries }
-    requires gifts { AreGifts catalog.now.database
+    requires all_assigned { AreAssigned catalog.now.database
         (given_in catalog.now.database given.old.entries) }
     ensures answer { Answers (λ u. given_in catalog.now.database given.new.entries) result
         (with_assignment catalog.now.database (given_in catalog.now.database given.old.entries)
         (assignment_view assignment.now)) }
     ensures changes { OnOk result (AreChanges catalog.now.database given.new.entries) }
 {
-    let change = gift(alloc, catalog, given, assignment)?;
+    let change = assigned(alloc, catalog, given, assignment)?;
     given.insert(target_of(assignment).try_clone()?, change)?;
     Ok(())
 }
@@ -194,7 +196,7 @@ fn given_by<B: Body>(
 {
     let mut given = IndexMap::new(alloc);
     for assignment in assignments {
-        match give(alloc, catalog, &mut given, assignment) {
+        match assign_one(alloc, catalog, &mut given, assignment) {
             Ok(()) => {}
             Err(fault) => return Err(fault),
         }
@@ -259,21 +261,21 @@ fn put<B: Body>(catalog: &mut Catalog<B>, name: &Name, change: &Change) -> Resul
 
 /// Lets the base relvar at a place take what it was given, where those before it did: refused where
 /// a key does not hold of it then.
-fn put_gift<B: Body>(
+fn put_assigned<B: Body>(
     catalog: &mut Catalog<B>,
     given: &IndexMap<Name, Change>,
     place: usize,
 ) -> Result<(), Failure>
     ghost db: { Database }
     requires db { IsTyped db × BasesHold db }
-    requires gifts { AreTypedChanges db given.now.entries }
+    requires all_assigned { AreTypedChanges db given.now.entries }
     requires so_far { catalog.old.database ≡ with_bases
-        (gifted_bases (given_in db given.now.entries) place db.bases) db }
+        (assigned_bases (given_in db given.now.entries) place db.bases) db }
     requires place { place < length db.bases }
     ensures check { IfSome (slice_get db.bases place) (λ r.
-        Passes result (base_check (with_gift (given_in db given.now.entries) r))) }
+        Passes result (base_check (with_assigned (given_in db given.now.entries) r))) }
     ensures next { OnOk result (catalog.new.database ≡ with_bases
-        (gifted_bases (given_in db given.now.entries) (place + 1) db.bases) db) }
+        (assigned_bases (given_in db given.now.entries) (place + 1) db.bases) db) }
     ensures on { GoesOn catalog.old catalog.new }
 {
     let Some((name, _)) = catalog.nth_base(place) else {
@@ -287,21 +289,21 @@ fn put_gift<B: Body>(
 }
 
 /// Lets the base relvars take what they were given: refused where a key does not hold then.
-fn put_gifts<B: Body>(
+fn put_all_assigned<B: Body>(
     catalog: &mut Catalog<B>,
     given: &IndexMap<Name, Change>,
 ) -> Result<(), Failure>
     ghost db: { Database }
     requires db { (db ≡ catalog.old.database) × IsTyped db × BasesHold db }
-    requires gifts { AreTypedChanges db given.now.entries }
+    requires all_assigned { AreTypedChanges db given.now.entries }
     ensures check { Passes result (first_refusal base_check
-        (with_gifts (given_in db given.now.entries) db).bases) }
+        (with_all_assigned (given_in db given.now.entries) db).bases) }
     ensures next { OnOk result (catalog.new.database
-        ≡ with_gifts (given_in db given.now.entries) db) }
+        ≡ with_all_assigned (given_in db given.now.entries) db) }
     ensures on { GoesOn catalog.old catalog.new }
 {
     for place in 0..catalog.base_count() {
-        match put_gift(catalog, given, place) {
+        match put_assigned(catalog, given, place) {
             Ok(()) => {}
             Err(failure) => return Err(failure),
         }
@@ -325,7 +327,7 @@ fn names_of_all(alloc: Global, given: &IndexMap<Name, Change>) -> Result<Vec<Nam
 
 /// After the base relvars were given this, what it reaches passes its checks; nothing else can
 /// have changed.
-fn settle_gifts<B: Body>(
+fn settle_all_assigned<B: Body>(
     alloc: Global,
     catalog: &Catalog<B>,
     plans: &mut Vec<Option<Plan>>,
@@ -350,43 +352,46 @@ fn settle_gifts<B: Body>(
 
 /// Lets the targets take what they were given: refused where a key does not hold then. One target
 /// alone is looked up by its name.
-fn put_all<B: Body>(catalog: &mut Catalog<B>, given: &IndexMap<Name, Change>) -> Result<(), Failure>
+fn change_bases<B: Body>(
+    catalog: &mut Catalog<B>,
+    given: &IndexMap<Name, Change>,
+) -> Result<(), Failure>
     ghost db: { Database }
     requires db { (db ≡ catalog.old.database) × IsTyped db × BasesHold db }
-    requires gifts { AreTypedChanges db given.now.entries }
+    requires all_assigned { AreTypedChanges db given.now.entries }
     ensures check { Passes result (first_refusal base_check
-        (with_gifts (given_in db given.now.entries) db).bases) }
+        (with_all_assigned (given_in db given.now.entries) db).bases) }
     ensures next { OnOk result (catalog.new.database
-        ≡ with_gifts (given_in db given.now.entries) db) }
+        ≡ with_all_assigned (given_in db given.now.entries) db) }
     ensures on { GoesOn catalog.old catalog.new }
 {
     match only_one(given) {
         Some((name, change)) => put(catalog, name, change),
-        None => put_gifts(catalog, given),
+        None => put_all_assigned(catalog, given),
     }
 }
 
 /// Lets the base relvars take what they were given, where what is checked is passed.
-fn give_all<B: Body>(
+fn assign_each<B: Body>(
     alloc: Global,
     catalog: &mut Catalog<B>,
     plans: &mut Vec<Option<Plan>>,
     given: &IndexMap<Name, Change>,
 ) -> Result<(), Failure>
     requires legal { IsLegal catalog.old.database }
-    requires gifts { AreTypedChanges catalog.old.database given.now.entries }
-    requires typed { AreGifts catalog.old.database
+    requires all_assigned { AreTypedChanges catalog.old.database given.now.entries }
+    requires typed { AreAssigned catalog.old.database
         (given_in catalog.old.database given.now.entries) }
     requires plans { AreKeptPlans catalog.old.database plans.old.items }
     ensures change { Changes catalog.new.database result (checked_effect
-        (with_gifts (given_in catalog.old.database given.now.entries) catalog.old.database)) }
+        (with_all_assigned (given_in catalog.old.database given.now.entries) catalog.old.database)) }
     ensures before { AreKeptPlans catalog.old.database plans.new.items }
     ensures after { OnOk result (AreKeptPlans catalog.new.database plans.new.items) }
     ensures on { GoesOn catalog.old catalog.new }
 {
     catalog.reveal();
-    match put_all(catalog, given) {
-        Ok(()) => settle_gifts(alloc, catalog, plans, given),
+    match change_bases(catalog, given) {
+        Ok(()) => settle_all_assigned(alloc, catalog, plans, given),
         Err(failure) => Err(failure),
     }
 }
@@ -409,7 +414,7 @@ pub(crate) fn assign<B: Body>(
     ensures on { GoesOn catalog.old catalog.new }
 {
     match given_by(alloc, catalog, &assignments) {
-        Ok(given) => give_all(alloc, catalog, plans, &given),
+        Ok(given) => assign_each(alloc, catalog, plans, &given),
         Err(fault) => Err(failure_of(fault)),
     }
 }

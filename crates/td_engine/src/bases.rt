@@ -1,30 +1,30 @@
 //! Definitions of base relvars.
 ghost use Rattle.std.specs.Prelude.{◌≡◌, IfOk, IsTrue, OnOk, [], map, not, option_map};
-ghost use Rattle.td_body.specs.Bodies.{after_change};
-ghost use Rattle.td_catalog.specs.Database.{base_relvar, knows_relvar, with_base};
-ghost use Rattle.td_catalog.specs.Dumps.{ordered_names};
-ghost use Rattle.td_catalog.specs.TypedDatabases.{AreTyped};
-ghost use Rattle.td_engine.specs.Assignments.{of_heading, relation_for};
+ghost use Rattle.td_body.specs.model.Bodies.{after_change};
+ghost use Rattle.td_catalog.specs.model.Database.{base_relvar, knows_relvar, with_base};
+ghost use Rattle.td_catalog.specs.model.Dumps.{ordered_names};
+ghost use Rattle.td_catalog.specs.model.TypedDatabases.{AreTyped};
+ghost use Rattle.td_engine.specs.model.Assignments.{of_heading, relation_for};
 ghost use Rattle.td_engine.specs.code.Carried.{Changes, IsAdmitted};
-ghost use Rattle.td_engine.specs.Machine.{base_defined, by_outcome, checked_effect, init_relation};
-ghost use Rattle.td_engine.specs.Legality.{AreBaseKeys, IsLegal};
+ghost use Rattle.td_engine.specs.model.Machine.{base_defined, by_outcome, checked_effect};
+ghost use Rattle.td_engine.specs.model.Machine.{init_relation};
+ghost use Rattle.td_engine.specs.model.Legality.{AreBaseKeys, IsLegal};
 ghost use Rattle.td_engine.specs.code.Plannable.{IsPlannableIf};
 ghost use Rattle.td_engine.specs.code.Stages.{GoesOn};
-ghost use Rattle.td_eval.specs.DatabaseWorlds.{world_of};
-ghost use Rattle.td_eval.specs.OperatorValues.{on_relation};
-ghost use Rattle.td_tree.specs.Outcomes.{Answers, Outcome, Valued, with_value};
+ghost use Rattle.td_eval.specs.model.DatabaseWorlds.{world_of};
+ghost use Rattle.td_eval.specs.model.OperatorValues.{on_relation};
+ghost use Rattle.td_tree.specs.model.Outcomes.{Answers, Outcome, Valued, with_value};
 ghost use Rattle.td_tree.specs.code.TreeViews.{heading_tree_view, statement_view, tree_view};
 ghost use Rattle.td_tree.specs.declared.cause.Cause.TheVariants as causes;
-ghost use Rattle.td_types.specs.TypeLists.{AreKnown, heading_meant};
-ghost use Rattle.td_types.specs.Types.{pack};
-ghost use Rattle.td_value.specs.Values.{Val};
-ghost use Rattle.td_value.specs.code.Views.{relation_view};
+ghost use Rattle.td_types.specs.model.TypeLists.{AreKnown, heading_meant};
+ghost use Rattle.td_types.specs.model.Types.{pack};
+ghost use Rattle.td_value.specs.model.Values.{Val, relation_view};
 
-use crate::beside::beside;
 use crate::change::{empty_like, empty_of};
 use crate::checks::keys_hold;
 use crate::definitions::failure_of;
 use crate::evaluation::{relation_of, value};
+use crate::paired::paired;
 use crate::refusal::{Failure, Refusal};
 use std::alloc::{AllocError, Global};
 use td_body::body::Body;
@@ -111,7 +111,7 @@ struct Parts<B> {
     body: B,
 }
 
-fn parts_of<B: Body>(
+fn base_parts<B: Body>(
     alloc: Global,
     name: Name,
     keys: Vec<Vec<Name>>,
@@ -151,7 +151,7 @@ fn add_base<B: Body>(
     ensures new { OnOk result (IsTrue (not (knows_relvar name catalog.old.database))) }
     ensures on { GoesOn catalog.old catalog.new }
 {
-    let parts: Parts<B> = parts_of(alloc, name, keys, relation)?;
+    let parts: Parts<B> = base_parts(alloc, name, keys, relation)?;
     let _ = parts.body.len();
     catalog.add_base(parts.name, parts.heading, parts.keys, parts.body)
 }
@@ -225,7 +225,7 @@ pub(crate) fn define_base<B: Body>(
     let relation = new_relation(alloc, catalog, &definition);
     drop(definition.heading);
     drop(definition.init);
-    match beside(relation, (definition.name, definition.keys)) {
+    match paired(relation, (definition.name, definition.keys)) {
         Ok(parts) => {
             let (relation, (name, keys)) = parts;
             add_ordered(alloc, catalog, name, keys, relation)

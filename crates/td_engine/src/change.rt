@@ -1,7 +1,7 @@
 //! What a statement takes out of a base relvar, and puts in.
 ghost use Rattle.std.specs.Prelude.{◌≡◌, [], IfOk};
-ghost use Rattle.td_engine.specs.Changes.{IsOfHeading, changed_by};
-ghost use Rattle.td_value.specs.code.Views.{relation_view};
+ghost use Rattle.td_engine.specs.code.Changes.{IsOfHeading, changed_by};
+ghost use Rattle.td_value.specs.model.Values.{relation_view};
 
 use std::alloc::{AllocError, Global};
 use td_algebra::sets::{minus, union};

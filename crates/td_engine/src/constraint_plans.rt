@@ -1,7 +1,7 @@
 //! Plans of constraints, which are kept from one check to the next.
 ghost use Rattle.std.specs.Prelude.{◌≡◌, ◌<◌, Some, length};
 ghost use Rattle.std.specs.List.{slice_get, slice_set};
-ghost use Rattle.td_catalog.specs.Database.{Database, NamedConstraint};
+ghost use Rattle.td_catalog.specs.model.Database.{Database, NamedConstraint};
 ghost use Rattle.td_engine.specs.code.ConstraintPlans.{AreKeptPlans, IsKeptPlan};
 
 use crate::evaluation::env_with;

@@ -1,25 +1,25 @@
 //! Definitions of types, virtual relvars and constraints, and drops.
 ghost use Rattle.std.specs.Prelude.{◌≡◌, IfOk, OnOk, map, option_map};
-ghost use Rattle.td_catalog.specs.Database.{Database, named_constraint, with_constraint};
-ghost use Rattle.td_catalog.specs.Database.{database_scope};
-ghost use Rattle.td_catalog.specs.Dumps.{ordered_names};
-ghost use Rattle.td_check.specs.OperatorTypes.{over_relation};
-ghost use Rattle.td_check.specs.StaticTypes.{type_of};
+ghost use Rattle.td_catalog.specs.model.Database.{Database, named_constraint, with_constraint};
+ghost use Rattle.td_catalog.specs.model.Database.{database_scope};
+ghost use Rattle.td_catalog.specs.model.Dumps.{ordered_names};
+ghost use Rattle.td_check.specs.model.OperatorTypes.{over_relation};
+ghost use Rattle.td_check.specs.model.StaticTypes.{type_of};
 ghost use Rattle.td_engine.specs.code.Carried.{Changes, IsAdmitted, failure_of};
-ghost use Rattle.td_engine.specs.Checks.{BasesHold};
-ghost use Rattle.td_engine.specs.Machine.{by_outcome, checked_effect, constraint_dropped};
-ghost use Rattle.td_engine.specs.Machine.{relvar_dropped, type_defined, type_dropped};
-ghost use Rattle.td_engine.specs.Machine.{unchecked_effect};
-ghost use Rattle.td_engine.specs.Machine.{virtual_defined};
-ghost use Rattle.td_engine.specs.Legality.{IsLegal};
+ghost use Rattle.td_engine.specs.model.Checks.{BasesHold};
+ghost use Rattle.td_engine.specs.model.Machine.{by_outcome, checked_effect, constraint_dropped};
+ghost use Rattle.td_engine.specs.model.Machine.{relvar_dropped, type_defined, type_dropped};
+ghost use Rattle.td_engine.specs.model.Machine.{unchecked_effect};
+ghost use Rattle.td_engine.specs.model.Machine.{virtual_defined};
+ghost use Rattle.td_engine.specs.model.Legality.{IsLegal};
 ghost use Rattle.td_engine.specs.code.Stages.{GoesOn};
-ghost use Rattle.td_tree.specs.Outcomes.{Answers, Outcome, Valued, with_value};
+ghost use Rattle.td_tree.specs.model.Outcomes.{Answers, Outcome, Valued, with_value};
 ghost use Rattle.td_tree.specs.code.TreeViews.{heading_tree_view, statement_view, tree_view};
-ghost use Rattle.td_types.specs.Types.{IsHeading, Type', pack};
+ghost use Rattle.td_types.specs.model.Types.{IsHeading, Type', pack};
 ghost use Rattle.td_types.specs.code.Views.{type_view};
 
-use crate::beside::beside;
 use crate::checks::{check_last_constraint, check_last_virtual};
+use crate::paired::paired;
 use crate::refusal::{Failure, Refusal};
 use std::alloc::Global;
 use td_body::body::Body;
@@ -70,7 +70,7 @@ fn add_type<B: Body>(catalog: &mut Catalog<B>, definition: TypeDefinition) -> Re
 {
     let components = resolve_attributes(catalog.types(), &definition.components);
     drop(definition.components);
-    let (components, (name, constraint)) = beside(
+    let (components, (name, constraint)) = paired(
         components,
         (definition.name, definition.constraint),
     )?;
@@ -127,7 +127,7 @@ struct Derived {
     keys: Vec<Vec<Name>>,
 }
 
-fn parts_of<B: Body>(
+fn derived_parts<B: Body>(
     alloc: Global,
     catalog: &Catalog<B>,
     definition: &VirtualDefinition,
@@ -160,9 +160,9 @@ fn add_virtual<B: Body>(
     ensures held { OnOk result (BasesHold catalog.new.database) }
     ensures on { GoesOn catalog.old catalog.new }
 {
-    let derived = parts_of(alloc, catalog, &definition);
+    let derived = derived_parts(alloc, catalog, &definition);
     drop(definition.keys);
-    let (derived, (name, expression)) = beside(derived, (definition.name, definition.expression))?;
+    let (derived, (name, expression)) = paired(derived, (definition.name, definition.expression))?;
     catalog.add_virtual(name, derived.heading, expression, derived.keys)
 }
 

@@ -1,21 +1,21 @@
 //! An engine: a database, and those to which its open transactions can go back.
 ghost use Rattle.std.specs.Prelude.{◌≡◌, Bool, IfOk, List, OnErr, length};
 ghost use Rattle.std.specs.String.{string_bytes};
-ghost use Rattle.td_catalog.specs.Dumps.{dump_text};
-ghost use Rattle.td_engine.specs.code.Carried.{IsOfDatabase, IsSpelledStatement};
-ghost use Rattle.td_engine.specs.Machine.{begun_transaction, committed_transaction, effect_in};
-ghost use Rattle.td_engine.specs.Machine.{empty_state};
-ghost use Rattle.td_engine.specs.Machine.{rolled_back, step_of};
-ghost use Rattle.td_engine.specs.Rebuilding.{Rebuilds};
-ghost use Rattle.td_engine.specs.Legality.{IsLegalState};
+ghost use Rattle.td_catalog.specs.model.Dumps.{dump_text};
+ghost use Rattle.td_engine.specs.code.Carried.{IsOfDatabase};
+ghost use Rattle.td_engine.specs.laws.LegalityLaws.{IsSpelledStatement};
+ghost use Rattle.td_engine.specs.model.Machine.{begun_transaction, committed_transaction};
+ghost use Rattle.td_engine.specs.model.Machine.{effect_in, empty_state, rolled_back, step_of};
+ghost use Rattle.td_engine.specs.laws.Rebuilding.{Rebuilds};
+ghost use Rattle.td_engine.specs.model.Legality.{IsLegalState};
 ghost use Rattle.td_engine.specs.code.Stages.{kept_for};
 ghost use Rattle.td_engine.specs.code.Steps.{Does, IsParsed, IsStep};
 ghost use Rattle.td_engine.specs.code.Transactions.{transaction_view};
-ghost use Rattle.td_tree.specs.Statements.{PlacedToken};
+ghost use Rattle.td_tree.specs.model.Statements.{PlacedToken};
 ghost use Rattle.td_tree.specs.code.TreeViews.{statement_view};
 
 use crate::answer::Answer;
-use crate::present::{Present, answer_of_fault};
+use crate::legal_catalog::{LegalCatalog, answer_of_fault};
 use crate::transaction::{Transaction, transaction_of};
 use std::alloc::{AllocError, Global};
 use std::marker::Model;
@@ -35,14 +35,14 @@ const TRANSACTION_LIMIT: usize = 16;
 #[derive(Drop)]
 pub struct Engine<B: Body> {
     alloc: Global,
-    present: Present<B>,
+    present: LegalCatalog<B>,
     /// How many databases were kept when each open transaction began, the last begun last.
     opens: Vec<usize>,
 }
 
 impl<B: Body> Model for Engine<B> {
     ghost use Rattle.std.specs.Prelude.{reverse};
-    ghost use Rattle.td_engine.specs.Machine.{State};
+    ghost use Rattle.td_engine.specs.model.Machine.{State};
     ghost use Rattle.td_engine.specs.code.Stages.{IsEngine, state_at};
     ghost use Rattle.td_engine.specs.code.Transactions.{state_code};
 
@@ -56,7 +56,7 @@ impl<B: Body> Model for Engine<B> {
 }
 
 /// Lets go of what the catalogue keeps, where no open transaction may go back to it.
-fn settle<B: Body>(present: &mut Present<B>, opens: &[usize])
+fn settle<B: Body>(present: &mut LegalCatalog<B>, opens: &[usize])
     ensures { present.new ≡ kept_for opens.now present.old }
 {
     if opens.is_empty() {
@@ -69,7 +69,7 @@ impl<B: Body> Engine<B> {
     pub fn new(alloc: Global) -> Engine<B>
         ensures { result ≡ empty_state }
     {
-        let present = Present::new(alloc);
+        let present = LegalCatalog::new(alloc);
         let _ = present.catalog();
         Engine {
             alloc,

@@ -1,14 +1,14 @@
 //! The values of expressions where no tuple is in hand.
 ghost use Rattle.std.specs.Prelude.{◌≡◌, [], IfOk, option_map};
-ghost use Rattle.td_engine.specs.Assignments.{of_heading};
+ghost use Rattle.td_engine.specs.model.Assignments.{of_heading};
 ghost use Rattle.td_engine.specs.code.Plannable.{IsPlannable};
 ghost use Rattle.td_engine.specs.code.Targets.{IsEnvOf};
-ghost use Rattle.td_eval.specs.DatabaseWorlds.{with_other, world_of};
-ghost use Rattle.td_eval.specs.OperatorValues.{on_relation};
-ghost use Rattle.td_eval.specs.TreeValues.{value_of};
-ghost use Rattle.td_tree.specs.Outcomes.{Answers, Outcome, with_value};
+ghost use Rattle.td_eval.specs.model.DatabaseWorlds.{with_other, world_of};
+ghost use Rattle.td_eval.specs.model.OperatorValues.{on_relation};
+ghost use Rattle.td_eval.specs.model.TreeValues.{value_of};
+ghost use Rattle.td_tree.specs.model.Outcomes.{Answers, Outcome, with_value};
 ghost use Rattle.td_tree.specs.code.TreeViews.{tree_view};
-ghost use Rattle.td_value.specs.Values.{Relation, Val};
+ghost use Rattle.td_value.specs.model.Values.{Relation, Val};
 
 use std::alloc::Global;
 use td_body::body::Body;

@@ -1,12 +1,13 @@
 //! Laws of the set machine: each function has its contract alone.
 ghost use Rattle.std.specs.Prelude.{◌≡◌, ◌≢◌, Bool, List, None};
-ghost use Rattle.td_engine.specs.Additions.{ConditionsStayInTuples, EmptinessIsOfAdditions};
-ghost use Rattle.td_engine.specs.Additions.{ExpressionsStay, ImageTestsAreOfAdditions};
-ghost use Rattle.td_engine.specs.Machine.{Progress, Runs, State, Step, Steps};
-ghost use Rattle.td_engine.specs.Rebuilding.{DumpsRebuild};
-ghost use Rattle.td_engine.specs.LegalityLaws.{AcceptedStatementsKeepLegality, RunsKeepLegality};
-ghost use Rattle.td_engine.specs.LegalityLaws.{SpelledExpressionsAreWritten};
-ghost use Rattle.td_tree.specs.Statements.{PlacedToken};
+ghost use Rattle.td_engine.specs.laws.Additions.{ConditionsStayInTuples, EmptinessIsOfAdditions};
+ghost use Rattle.td_engine.specs.laws.Additions.{ConstraintsAreTestedByAdditions, ExpressionsStay};
+ghost use Rattle.td_engine.specs.laws.Additions.{ImageTestsAreOfAdditions, OperatorsKeepAdditions};
+ghost use Rattle.td_engine.specs.model.Machine.{Progress, Runs, State, Step, Steps};
+ghost use Rattle.td_engine.specs.laws.Rebuilding.{DumpsRebuild};
+ghost use Rattle.td_engine.specs.laws.LegalityLaws.{AcceptedStatementsKeepLegality};
+ghost use Rattle.td_engine.specs.laws.LegalityLaws.{RunsKeepLegality, SpelledExpressionsAreWritten};
+ghost use Rattle.td_tree.specs.model.Statements.{PlacedToken};
 
 /// Every list of statements has an outcome.
 #[tactic(auto, using(crate::proofs::law_lemmas::Runs::some_outcome))]
@@ -71,4 +72,18 @@ pub fn image_tests_are_of_additions()
 /// had, or the same causes.
 pub fn expressions_stay()
     ensures { ExpressionsStay }
+{}
+
+/// Of a relation before and after a change, and of what came in, projection, renaming, restriction,
+/// extension, intersection, difference, join and matching give such relations, or the same causes.
+/// A question that was TRUE before, of the emptiness or the inclusion of such relations, or two of
+/// them, has the same answer of what came in as after the change.
+pub fn operators_keep_additions()
+    ensures { OperatorsKeepAdditions }
+{}
+
+/// In a legal database, after a change of one base relvar, a constraint that asks of each of its
+/// tuples comes to what it comes to where the relvar's name means the tuples that came in.
+pub fn constraints_are_tested_by_additions()
+    ensures { ConstraintsAreTestedByAdditions }
 {}

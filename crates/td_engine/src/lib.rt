@@ -1,11 +1,17 @@
 //! The engine: statements over a database, from bytes to bytes.
+//!
+//! td is made of it, and other programs may be. Most used are `run`, a whole script,
+//! `Engine::step`, one statement, and `Engine::dump`.
+//!
+//! Read engine.rt and transaction.rt, legal_catalog.rt for what a statement does, assignments.rt
+//! and target.rt, then checks.rt; last run.rt with source.rt and sink.rt, where the theorem stands.
+//! The machine is specs/model/Machine; ./read prints all that the theorem means.
 #![tactic(auto)]
 
 mod added;
 pub mod answer;
 mod assignments;
 mod bases;
-mod beside;
 mod change;
 mod checks;
 mod constraint_plans;
@@ -13,7 +19,8 @@ mod definitions;
 pub mod engine;
 mod evaluation;
 pub mod laws;
-mod present;
+mod legal_catalog;
+mod paired;
 mod reached;
 mod refusal;
 pub mod run;

@@ -1,7 +1,7 @@
 //! What a change reaches.
 ghost use Rattle.std.specs.Prelude.{◌≡◌, IfOk, OnOk};
 ghost use Rattle.td_catalog.specs.code.CatalogViews.{virtual_view};
-ghost use Rattle.td_eval.specs.ReachedRelvars.{reached_from, with_dependent};
+ghost use Rattle.td_eval.specs.laws.ReachedRelvars.{reached_from, with_dependent};
 
 use std::alloc::AllocError;
 use td_body::body::Body;

@@ -4,25 +4,26 @@ ghost use Rattle.std.specs.Prelude.{List};
 ghost use Rattle.std.specs.Prelude.{length, None, IfOk, IfErr, IfNone, IfSome, IsOk, OnOk, IsTrue};
 ghost use Rattle.std.specs.Prelude.{IsFalse};
 ghost use Rattle.std.specs.Io.KnownBytes.{Consumes};
-ghost use Rattle.td_engine.specs.Faults.{IfMemory, IfNotMemory, IfRead, IfReadLimit, IfWrite};
-ghost use Rattle.td_engine.specs.Scripts.{OfBroken, OfFront, OfScript, OfTooMuch, script_limit};
-ghost use Rattle.td_engine.specs.Legality.{IsLegalState};
-ghost use Rattle.td_engine.specs.LegalityLaws.{IsLegalThroughout};
-ghost use Rattle.td_engine.specs.Standing.{HasRun, HasRunCut, IsLeft, IsOngoing, run_of, standing};
-ghost use Rattle.td_engine.specs.Told.{GaveAtMost, KeepsIfTold, StaysWhole};
+ghost use Rattle.td_engine.specs.model.Faults.{IfMemory, IfNotMemory, IfRead, IfReadLimit, IfWrite};
+ghost use Rattle.td_engine.specs.model.Scripts.{OfBroken, OfFront, OfScript, OfTooMuch};
+ghost use Rattle.td_engine.specs.model.Scripts.{script_limit};
+ghost use Rattle.td_engine.specs.model.Legality.{IsLegalState, IsLegalThroughout};
+ghost use Rattle.td_engine.specs.model.Standing.{HasRun, HasRunCut, IsLeft, IsOngoing, run_of};
+ghost use Rattle.td_engine.specs.model.Standing.{standing};
+ghost use Rattle.td_engine.specs.model.Told.{GaveAtMost, KeepsIfTold, StaysWhole};
 ghost use Rattle.td_engine.specs.code.Turns.{Advanced, EndedAt, EndedIn, HasTurnedCut, IsFed};
 ghost use Rattle.td_engine.specs.code.Turns.{IsReading};
 ghost use Rattle.td_engine.specs.code.Turns.{Turned, place_at};
-ghost use Rattle.td_tree.specs.Statements.{first_statement};
+ghost use Rattle.td_tree.specs.model.Statements.{first_statement};
 
 use crate::engine::Engine;
 use crate::laws::runs_keep_legality;
-use crate::sink::{Sink, put_all};
+use crate::sink::{Sink, put_bytes};
 use crate::source::{Broken, Source};
 use std::alloc::{AllocError, Global};
 use td_body::body::Body;
-use td_parse::statement::parse_statement;
-use td_scan::cutter::Cutter;
+use td_parse::statement::{parse_statement, parse_upcoming};
+use td_scan::cutter::{Cutter, WholeStatement};
 use td_tree::fault::Fault;
 use td_tree::statement::Statement;
 
@@ -133,12 +134,22 @@ struct Reading {
     end: u64,
 }
 
-/// Reads the first statement of those held, if there is one. Its tokens are let go.
+/// Reads the first statement of those held, if there is one. Where its `;` was read its tokens are
+/// not listed.
 fn read_first(alloc: Global, cutter: &Cutter) -> Result<Option<Reading>, AllocError>
     ensures some { IfOk result (λ found. IfSome found (λ reading.
         IsReading cutter.now reading.parsed reading.end)) }
     ensures none { IfOk result (λ found. IfNone found (first_statement cutter.now ≡ None)) }
 {
+    if let Some(statement) = cutter.whole_statement() {
+        let WholeStatement {
+            tokens,
+            has_bad,
+            end,
+        } = statement;
+        let parsed = parse_upcoming(alloc, tokens, has_bad);
+        return Ok(Some(Reading { parsed, end }));
+    }
     let Some(tokens) = cutter.next_statement()? else {
         return Ok(None);
     };
@@ -187,7 +198,7 @@ fn run_one<B: Body, W: Sink>(
     };
     report.count(answer.accepted);
     let done = report.statements;
-    match put_all(writer, answer.text.as_bytes()) {
+    match put_bytes(writer, answer.text.as_bytes()) {
         Ok(()) => Ok(true),
         Err(Broken) => Err(RunFault::Write { done }),
     }

@@ -1,18 +1,18 @@
 //! What UPDATE sets, and what it makes of tuples.
 ghost use Rattle.std.specs.Prelude.{◌≡◌, ℕ, List, IfOk, IsTrue, length, map};
-ghost use Rattle.td_body.specs.Bodies.{after_change};
-ghost use Rattle.td_engine.specs.Assignments.{setting_attributes, setting_names};
-ghost use Rattle.td_engine.specs.Assignments.{updated_relation};
-ghost use Rattle.td_engine.specs.code.Gifts.{setting_attribute};
-ghost use Rattle.td_eval.specs.code.Sights.{tuples_in_hand, world_in};
-ghost use Rattle.td_eval.specs.TreeValues.{values_in_tuples};
-ghost use Rattle.td_plan.specs.PlansOf.{PartsMeetRulesIn, scope_in};
-ghost use Rattle.td_tree.specs.Outcomes.{Answers, gathered};
+ghost use Rattle.td_body.specs.model.Bodies.{after_change};
+ghost use Rattle.td_engine.specs.model.Assignments.{setting_attributes, setting_names};
+ghost use Rattle.td_engine.specs.model.Assignments.{updated_relation};
+ghost use Rattle.td_engine.specs.code.AssignedRelations.{setting_attribute};
+ghost use Rattle.td_eval.specs.code.LentWorlds.{tuples_in_hand, world_in};
+ghost use Rattle.td_eval.specs.model.TreeValues.{values_in_tuples};
+ghost use Rattle.td_plan.specs.code.PlansOf.{PartsMeetRulesIn, scope_in};
+ghost use Rattle.td_tree.specs.model.Outcomes.{Answers, gathered};
 ghost use Rattle.td_tree.specs.code.TreeViews.{named_view};
-ghost use Rattle.td_types.specs.Headings.{are_distinct};
-ghost use Rattle.td_types.specs.Types.{Type', attribute_names};
+ghost use Rattle.td_types.specs.model.Headings.{are_distinct};
+ghost use Rattle.td_types.specs.model.Types.{Type', attribute_names};
 ghost use Rattle.td_types.specs.code.Views.{pairs_view, type_view};
-ghost use Rattle.td_value.specs.Values.{Relation};
+ghost use Rattle.td_value.specs.model.Values.{Relation};
 
 use crate::evaluation::of_heading;
 use std::alloc::Global;

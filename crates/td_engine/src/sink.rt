@@ -2,7 +2,7 @@
 ghost use Rattle.std.specs.Prelude.{◌≡◌, ℕ, ◌<◌, ◌≤◌, Bool, cond, List, length, Option, None, IfOk};
 ghost use Rattle.std.specs.Prelude.{IsFalse, IsTrue, OnErr, OnOk, take};
 ghost use Rattle.std.specs.Io.KnownBytes.{Appends};
-ghost use Rattle.td_engine.specs.Told.{AppendsIfTold, Puts, StaysWhole};
+ghost use Rattle.td_engine.specs.model.Told.{AppendsIfTold, Puts, StaysWhole};
 
 use crate::source::{Broken, PATIENCE};
 use std::io::{ErrorKind, Write};
@@ -94,7 +94,7 @@ impl<W: Write> Sink for IoSink<W> {
 }
 
 /// Writes all the bytes, by as many calls as the sink wants.
-pub fn put_all<W: Sink>(writer: &mut W, bytes: &[u8]) -> Result<(), Broken>
+pub fn put_bytes<W: Sink>(writer: &mut W, bytes: &[u8]) -> Result<(), Broken>
     ensures written { OnOk result (Appends (W.taken writer.old) (W.taken writer.new) bytes.now) }
     ensures cut { OnErr result ((n : ℕ) × (n ≤ length bytes.now)
         × AppendsIfTold (W.taken writer.old) (W.taken writer.new) (take n bytes.now)) }

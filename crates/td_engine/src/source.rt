@@ -2,7 +2,7 @@
 ghost use Rattle.std.specs.Prelude.{◌≡◌, ℕ, ◌<◌, ◌≤◌, Bool, cond, List, length, Option, None, IfOk};
 ghost use Rattle.std.specs.Prelude.{IsFalse, IsTrue, OnErr, OnOk};
 ghost use Rattle.std.specs.Io.KnownBytes.{IsAtEnd};
-ghost use Rattle.td_engine.specs.Told.{Pulls};
+ghost use Rattle.td_engine.specs.model.Told.{Pulls};
 
 use std::io::{ErrorKind, Read};
 

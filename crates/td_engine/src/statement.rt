@@ -1,13 +1,13 @@
 //! Statements: what one does to a catalogue.
 ghost use Rattle.std.specs.Prelude.{OnOk};
-ghost use Rattle.td_catalog.specs.Database.{database_scope};
-ghost use Rattle.td_check.specs.StatementTypes.{statement_checked};
+ghost use Rattle.td_catalog.specs.model.Database.{database_scope};
+ghost use Rattle.td_check.specs.model.StatementTypes.{statement_checked};
 ghost use Rattle.td_engine.specs.code.Carried.{Changes, IsAdmitted, IsChange};
 ghost use Rattle.td_engine.specs.code.ConstraintPlans.{AreKeptPlans};
-ghost use Rattle.td_engine.specs.Machine.{carried_out};
-ghost use Rattle.td_engine.specs.Legality.{IsLegal};
+ghost use Rattle.td_engine.specs.model.Machine.{carried_out};
+ghost use Rattle.td_engine.specs.model.Legality.{IsLegal};
 ghost use Rattle.td_engine.specs.code.Stages.{GoesOn};
-ghost use Rattle.td_tree.specs.Outcomes.{Answers};
+ghost use Rattle.td_tree.specs.model.Outcomes.{Answers};
 ghost use Rattle.td_tree.specs.code.TreeViews.{statement_view};
 
 use crate::assignments::assign;

@@ -1,13 +1,3 @@
-pub mod AggregateValues
-pub mod DatabaseWorlds
-pub mod LiteralValues
-pub mod MetConstraints
-pub mod OperatorValues
-pub mod ReachedRelvars
-pub mod TreeNumbers
-pub mod TreeValues
-pub mod UnfailingValues
-pub mod ValueLaws
-pub mod ValueTypes
-pub mod Worlds
 pub mod code
+pub mod laws
+pub mod model

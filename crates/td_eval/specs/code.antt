@@ -1,4 +1,4 @@
 pub mod FixedValues
+pub mod LentWorlds
 pub mod NewColumns
-pub mod Sights
 pub mod Totals

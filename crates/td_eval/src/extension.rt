@@ -1,23 +1,23 @@
 //! The attributes that EXTEND adds or sets.
 ghost use Rattle.std.specs.Prelude.{◌≡◌, IfOk, List, length, not, reverse};
 ghost use Rattle.std.specs.List.{list_all};
-ghost use Rattle.td_algebra.specs.Columns.{columns_view};
-ghost use Rattle.td_check.specs.OperatorTypes.{extended_by};
-ghost use Rattle.td_check.specs.Scopes.{entered_with};
-ghost use Rattle.td_check.specs.StaticTypes.{named_types};
+ghost use Rattle.td_algebra.specs.code.Columns.{columns_view};
+ghost use Rattle.td_check.specs.model.OperatorTypes.{extended_by};
+ghost use Rattle.td_check.specs.model.Scopes.{entered_with};
+ghost use Rattle.td_check.specs.model.StaticTypes.{named_types};
 ghost use Rattle.td_eval.specs.code.NewColumns.{AreColumnsFor, named_columns};
-ghost use Rattle.td_eval.specs.OperatorValues.{extended_by_settings, extended_value};
-ghost use Rattle.td_eval.specs.code.Sights.{IsSight, seen_by};
-ghost use Rattle.td_eval.specs.Worlds.{with_tuples};
-ghost use Rattle.td_tree.specs.Outcomes.{Answers, Outcome, Valued, gathered, with_value};
+ghost use Rattle.td_eval.specs.model.OperatorValues.{extended_by_settings, extended_value};
+ghost use Rattle.td_eval.specs.code.LentWorlds.{IsLentWorld, seen_by};
+ghost use Rattle.td_eval.specs.model.Worlds.{with_tuples};
+ghost use Rattle.td_tree.specs.model.Outcomes.{Answers, Outcome, Valued, gathered, with_value};
 ghost use Rattle.td_tree.specs.code.TreeViews.{named_view};
-ghost use Rattle.td_types.specs.Headings.{has_attribute};
+ghost use Rattle.td_types.specs.model.Headings.{has_attribute};
 ghost use Rattle.td_types.specs.code.Views.{pairs_view};
-ghost use Rattle.td_value.specs.Values.{Tuple, Val};
+ghost use Rattle.td_value.specs.model.Values.{Tuple, Val};
 
+use crate::lent_world::LentWorld;
 use crate::operators::relational::{as_value, fit};
 use crate::operators::tuplewise::extension_value;
-use crate::sight::Sight;
 use std::alloc::Global;
 use td_algebra::extension::Column;
 use td_algebra::setting::set_all;
@@ -60,17 +60,17 @@ pub fn ask_new(alloc: Global, attributes: &[(Name, Ty)], heading: &Heading) -> R
 
 /// The attributes that are added or set, with the types of their expressions.
 pub(crate) fn new_attributes<B: Body>(
-    sight: &Sight<'_, B>,
+    lent: &LentWorld<'_, B>,
     tuples: &[Tuple],
     operand: &Rel,
     parts: &[NamedExpr],
 ) -> Result<Vec<(Name, Ty)>, Fault>
-    requires { IsSight sight.now }
+    requires { IsLentWorld lent.now }
     ensures { Answers (λ ts. pairs_view ts.items) result
         (named_types (entered_with operand.now.heading
-        (with_tuples (seen_by sight.now).scope (reverse tuples.now))) (named_view parts.now)) }
+        (with_tuples (seen_by lent.now).scope (reverse tuples.now))) (named_view parts.now)) }
 {
-    let mut scope = sight.scope(tuples)?;
+    let mut scope = lent.scope(tuples)?;
     scope.enter(operand.heading().try_clone()?)?;
     check_parts(&scope, parts)
 }

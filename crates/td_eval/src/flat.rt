@@ -6,8 +6,8 @@ ghost use Rattle.std.specs.List.Sorted.{IsPermutation};
 ghost use Rattle.td_algebra.specs.code.Layouts.{numbered_sources};
 ghost use Rattle.td_eval.specs.code.FixedValues.{AreFixed, EntriesAreFixed, IsFixed, IsPut};
 ghost use Rattle.td_tree.specs.code.TreeViews.{named_view, tree_view, trees_view};
-ghost use Rattle.td_types.specs.Headings.{are_distinct};
-ghost use Rattle.td_value.specs.Values.{tuple_value};
+ghost use Rattle.td_types.specs.model.Headings.{are_distinct};
+ghost use Rattle.td_value.specs.model.Values.{tuple_value};
 
 use crate::operators::literals::literal_value;
 use std::alloc::{AllocError, Global};

@@ -1,17 +1,17 @@
 //! What expressions are in each tuple of a relation.
 ghost use Rattle.std.specs.Prelude.{◌≡◌, ◌∷◌, IsTrue, length, map};
-ghost use Rattle.td_eval.specs.OperatorValues.{set_value, truth_value};
-ghost use Rattle.td_eval.specs.code.Sights.{tuples_in_hand, world_in};
-ghost use Rattle.td_eval.specs.TreeValues.{value_of, values_in_tuples};
-ghost use Rattle.td_tree.specs.Outcomes.{Answers, gathered};
+ghost use Rattle.td_eval.specs.model.OperatorValues.{set_value, truth_value};
+ghost use Rattle.td_eval.specs.code.LentWorlds.{tuples_in_hand, world_in};
+ghost use Rattle.td_eval.specs.model.TreeValues.{value_of, values_in_tuples};
+ghost use Rattle.td_tree.specs.model.Outcomes.{Answers, gathered};
 ghost use Rattle.td_tree.specs.code.TreeViews.{named_view, tree_view};
-ghost use Rattle.td_types.specs.Headings.{are_distinct};
-ghost use Rattle.td_types.specs.Types.{attribute_names};
+ghost use Rattle.td_types.specs.model.Headings.{are_distinct};
+ghost use Rattle.td_types.specs.model.Types.{attribute_names};
 ghost use Rattle.td_types.specs.code.Views.{pairs_view};
 
 use crate::env::Env;
+use crate::lent_world::LentWorld;
 use crate::rows::copies_of_lent;
-use crate::sight::Sight;
 use crate::value::{columns, truths};
 use std::alloc::Global;
 use td_algebra::setting::set_all;
@@ -33,8 +33,8 @@ pub fn truths_in<B: Body>(
         (world_in env.now) (t ∷ tuples_in_hand env.now) (tree_view condition.now)))
         rel.now.body)) }
 {
-    let sight = Sight::of_env(alloc, env);
-    truths(&sight, &copies_of_lent(alloc, env.tuples)?, rel, condition)
+    let lent = LentWorld::of_env(alloc, env);
+    truths(&lent, &copies_of_lent(alloc, env.tuples)?, rel, condition)
 }
 
 /// The relation with the attributes of each tuple set, all at once, to the values of the parts
@@ -52,9 +52,9 @@ pub fn set_in_tuples<B: Body>(
         (values_in_tuples (world_in env.now) (tuples_in_hand env.now) (named_view parts.now))
         rel.now) }
 {
-    let sight = Sight::of_env(alloc, env);
+    let lent = LentWorld::of_env(alloc, env);
     let columns = columns(
-        &sight,
+        &lent,
         &copies_of_lent(alloc, env.tuples)?,
         rel,
         attributes,

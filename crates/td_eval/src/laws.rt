@@ -1,22 +1,23 @@
 //! What the values of expressions are to their callers: each function has its contract alone.
-ghost use Rattle.td_eval.specs.LiteralValues.{CutTypesKeepConstraints};
-ghost use Rattle.td_eval.specs.LiteralValues.{DropsKeepWhatMeets, LaterTypesKeepWhatMeets};
-ghost use Rattle.td_eval.specs.LiteralValues.{LiteralsHaveTheirTypes};
-ghost use Rattle.td_eval.specs.LiteralValues.{LiteralsHaveTheirValues, SelectorsGiveWhatMeets};
-ghost use Rattle.td_eval.specs.LiteralValues.{StoredLiteralsHaveTheirValues};
-ghost use Rattle.td_eval.specs.LiteralValues.{WhatSelectorsGiveMeets};
-ghost use Rattle.td_eval.specs.MetConstraints.{AssignedRelationsMeetConstraints};
-ghost use Rattle.td_eval.specs.MetConstraints.{ValuesMeetConstraints};
-ghost use Rattle.td_eval.specs.ReachedRelvars.{UnreachedValuesStay};
-ghost use Rattle.td_eval.specs.TreeNumbers.{SpelledNumbersAreInRange};
-ghost use Rattle.td_eval.specs.UnfailingValues.{OtherRelationsGiveValues, TypedDatabasesGiveValues};
-ghost use Rattle.td_eval.specs.UnfailingValues.{UnfailingExpressionsHaveValues};
-ghost use Rattle.td_eval.specs.ValueLaws.{DropsChangeNoValue, LaterEntriesChangeNothing};
-ghost use Rattle.td_eval.specs.ValueLaws.{NewSettingsExtend, SummarizeByIsPerOfTheProjection};
-ghost use Rattle.td_eval.specs.ValueLaws.{TupleOrderDoesNotCount};
-ghost use Rattle.td_eval.specs.ValueLaws.{ValuesDependOnEntries, ValuesDependOnMentions};
-ghost use Rattle.td_eval.specs.ValueTypes.{TypedDatabasesKeepScopes, OtherRelationsKeepScopes};
-ghost use Rattle.td_eval.specs.ValueTypes.{ValuesKeepTypes};
+ghost use Rattle.td_eval.specs.laws.LiteralValues.{CutTypesKeepConstraints};
+ghost use Rattle.td_eval.specs.laws.LiteralValues.{DropsKeepWhatMeets, LaterTypesKeepWhatMeets};
+ghost use Rattle.td_eval.specs.laws.LiteralValues.{LiteralsHaveTheirTypes};
+ghost use Rattle.td_eval.specs.laws.LiteralValues.{LiteralsHaveTheirValues, SelectorsGiveWhatMeets};
+ghost use Rattle.td_eval.specs.laws.LiteralValues.{StoredLiteralsHaveTheirValues};
+ghost use Rattle.td_eval.specs.laws.LiteralValues.{WhatSelectorsGiveMeets};
+ghost use Rattle.td_eval.specs.laws.MetConstraintLaws.{AssignedRelationsMeetConstraints};
+ghost use Rattle.td_eval.specs.laws.MetConstraintLaws.{ValuesMeetConstraints};
+ghost use Rattle.td_eval.specs.laws.ReachedRelvars.{UnreachedValuesStay};
+ghost use Rattle.td_eval.specs.laws.TreeNumbers.{SpelledNumbersAreInRange};
+ghost use Rattle.td_eval.specs.laws.UnfailingValues.{OtherRelationsGiveValues};
+ghost use Rattle.td_eval.specs.laws.UnfailingValues.{TypedDatabasesGiveValues};
+ghost use Rattle.td_eval.specs.laws.UnfailingValues.{UnfailingExpressionsHaveValues};
+ghost use Rattle.td_eval.specs.laws.ValueLaws.{DropsChangeNoValue, LaterEntriesChangeNothing};
+ghost use Rattle.td_eval.specs.laws.ValueLaws.{NewSettingsExtend, SummarizeByIsPerOfTheProjection};
+ghost use Rattle.td_eval.specs.laws.ValueLaws.{TupleOrderDoesNotCount};
+ghost use Rattle.td_eval.specs.laws.ValueLaws.{ValuesDependOnEntries, ValuesDependOnMentions};
+ghost use Rattle.td_eval.specs.laws.ValueTypes.{TypedDatabasesKeepScopes, OtherRelationsKeepScopes};
+ghost use Rattle.td_eval.specs.laws.ValueTypes.{ValuesKeepTypes};
 
 /// An expression that has a type has, if it has a value, a value of that type, and else causes of
 /// evaluation alone: OVERFLOW, ZERO_DIVISOR, EMPTY_AGGREGATE, NOT_ONE_TUPLE, TYPE_CONSTRAINT,

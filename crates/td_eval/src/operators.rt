@@ -1,7 +1,6 @@
 //! The values of operators, by the values of their operands.
 pub mod aggregates;
 mod arithmetic;
-pub mod asked;
 pub mod between;
 pub mod comparisons;
 pub mod elements;
@@ -10,6 +9,7 @@ mod nesting;
 pub mod operand;
 pub mod postfix;
 pub mod relational;
+pub mod requirements;
 pub mod selectors;
 mod simple;
 pub mod summaries;

@@ -1,12 +1,12 @@
 //! What an expression gives of each row.
 ghost use Rattle.std.specs.Prelude.{◌≡◌, ◌∷◌, [], ℕ, IfOk, List, map};
 ghost use Rattle.td_eval.specs.code.NewColumns.{column_view, with_values};
-ghost use Rattle.td_eval.specs.OperatorValues.{truth_value, value_of_type};
-ghost use Rattle.td_tree.specs.Outcomes.{Answers, Outcome, Valued, with_value};
+ghost use Rattle.td_eval.specs.model.OperatorValues.{truth_value, value_of_type};
+ghost use Rattle.td_tree.specs.model.Outcomes.{Answers, Outcome, Valued, with_value};
 ghost use Rattle.td_types.specs.code.Views.{type_view};
-ghost use Rattle.td_value.specs.Values.{Val};
+ghost use Rattle.td_value.specs.model.Values.{Val};
 
-use crate::operators::asked::{of_type, truth};
+use crate::operators::requirements::{of_type, truth};
 use std::alloc::{AllocError, Global};
 use td_algebra::extension::Column;
 use td_tree::fault::Fault;

@@ -3,11 +3,11 @@ use Rattle.std.proofs.Common.{◌≡◌, ◌∙◌, ap, sym, refl, subst, ℕ, B
 use Rattle.std.specs.Prelude.{if◌then◌else◌, is_some, option_map}
 use Rattle.std.specs.Cmp.Lexicographic.{same_text}
 use Rattle.std.proofs.lemmas.List.Elements.{All-append, All-from_recursion, recursion_from_All}
-use Rattle.td_types.specs.Headings.{are_distinct, has_attribute, has_name, have_no_common, heading_union, with_attribute}
-use Rattle.td_types.specs.Types.{Heading, IsHeading, Type', pack, same_name, type_at}
+use Rattle.td_types.specs.model.Headings.{are_distinct, has_attribute, has_name, have_no_common, heading_union, with_attribute}
+use Rattle.td_types.specs.model.Types.{Heading, IsHeading, Type', pack, same_name, type_at}
 use Rattle.td_types.proofs.DistinctNames.{first_of, second_of}
 use Rattle.td_types.proofs.HeadingLaws.{type_at-union, type_at-with}
-use Rattle.td_value.specs.Values.{IsTupleOf, IsValue, Tuple, Val, tuple_names, tuple_of, type_of, value_at}
+use Rattle.td_value.specs.model.Values.{IsTupleOf, IsValue, Tuple, Val, tuple_names, tuple_of, type_of, value_at}
 use Rattle.td_algebra.proofs.Entries.{HaveValues, IsTupleOf-made, distinct_append, has_name-heading, tuple_distinct, typed_values, value_at-append, values_of_fields}
 use Rattle.td_algebra.proofs.United.{IsHeading-union}
 

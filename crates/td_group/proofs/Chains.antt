@@ -6,14 +6,14 @@ use Rattle.std.specs.Ordering.{eq_by_cmp}
 use Rattle.std.proofs.lemmas.Cmp.{eq_by_cmp_equiv}
 use Rattle.std.proofs.lemmas.List.{length-map}
 use Rattle.std.proofs.lemmas.List.Elements.{All-contains, Contains-append_cases, Contains-append_left, Contains-append_right}
-use Rattle.td_types.specs.Headings.{is_closable}
-use Rattle.td_types.specs.Types.{Attribute, Heading, attribute_names}
-use Rattle.td_value.specs.Sets.{has}
-use Rattle.td_value.specs.Values.{HaveSameMembers, IsTupleOf, Tuple, Val, boolean, heading_of, type_of, value_cmp}
-use Rattle.td_value.specs.ValueOrder.{order_total, value_Decides}
+use Rattle.td_types.specs.model.Headings.{is_closable}
+use Rattle.td_types.specs.model.Types.{Attribute, Heading, attribute_names}
+use Rattle.td_value.specs.model.Sets.{has}
+use Rattle.td_value.specs.model.Values.{HaveSameMembers, IsTupleOf, Tuple, Val, boolean, heading_of, type_of, value_cmp}
+use Rattle.td_value.specs.code.ValueOrder.{order_total, value_Decides}
 use Rattle.td_algebra.proofs.Lists.{contains_cases, contains_filter, contains_first, contains_flat_map, contains_later, contains_map, contains_none}
 use Rattle.td_algebra.proofs.Relations.{All-from_members}
-use Rattle.td_group.specs.Closure.{chained_tuple, chained_tuples, is_followed_by}
+use Rattle.td_group.specs.model.Closure.{chained_tuple, chained_tuples, is_followed_by}
 use Rattle.td_group.specs.code.Successors.{ArePairsFrom, HaveSameValues, Leads, led_to, ends_of, pair_of, starts_in, start_of, successors}
 use Rattle.td_group.proofs.Graphs.{fewer_left, left_of, leads_more, nothing_left}
 

@@ -3,16 +3,16 @@ use Rattle.std.proofs.Common.{◌≡◌, ◌∙◌, ◌⊎◌, inl, inr, ap, sym
 use Rattle.std.specs.List.{All, Contains}
 use Rattle.std.specs.Ordering.{eq_by_cmp}
 use Rattle.std.proofs.lemmas.List.Elements.{All-contains}
-use Rattle.td_types.specs.Headings.{is_closable}
-use Rattle.td_types.specs.Types.{Attribute}
-use Rattle.td_value.specs.Values.{IsRelation, IsTupleOf, Relation, Tuple, Val, value_cmp}
-use Rattle.td_value.specs.ValueOrder.{value_Decides}
+use Rattle.td_types.specs.model.Headings.{is_closable}
+use Rattle.td_types.specs.model.Types.{Attribute}
+use Rattle.td_value.specs.model.Values.{IsRelation, IsTupleOf, Relation, Tuple, Val, value_cmp}
+use Rattle.td_value.specs.code.ValueOrder.{value_Decides}
 use Rattle.td_value.proofs.Members.{by_members, set_members}
-use Rattle.td_algebra.specs.Membership.{IsIn}
+use Rattle.td_algebra.specs.laws.Membership.{IsIn}
 use Rattle.td_algebra.proofs.Lists.{contains_cases, contains_first, contains_later, contains_none}
 use Rattle.td_algebra.proofs.Relations.{All-from_members, IsRelation-relation_of, rows_headed}
-use Rattle.td_group.specs.Closure.{IsChain, chained_tuple, chained_tuples, closure, first_value, is_followed_by, second_value}
-use Rattle.td_group.specs.Membership.{ClosureByChains, ClosureIsIdempotent, ClosureIsLeast, IsTransitive}
+use Rattle.td_group.specs.model.Closure.{chained_tuple, chained_tuples, closure, is_followed_by}
+use Rattle.td_group.specs.laws.Membership.{ClosureByChains, ClosureIsIdempotent, ClosureIsLeast, IsTransitive, IsChain, first_value, second_value}
 use Rattle.td_group.specs.code.Successors.{Leads, pair_of, successors}
 use Rattle.td_group.proofs.Chains.{chained_lead, closable_two, from_successor, itself, led_chained, led_headed, shaped, to_successor}
 

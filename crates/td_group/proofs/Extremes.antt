@@ -6,11 +6,11 @@ use Rattle.std.specs.declared.cmp.Ordering.TheVariants.{Less, Equal, Greater}
 use Rattle.std.specs.List.{Contains}
 use Rattle.std.specs.Ordering.{is_lt, ordering_reverse}
 use Rattle.std.proofs.lemmas.Cmp.{tied_itself}
-use Rattle.td_value.specs.Values.{Val, value_cmp}
-use Rattle.td_value.specs.ValueOrder.{order_same, order_total}
+use Rattle.td_value.specs.model.Values.{Val, value_cmp}
+use Rattle.td_value.specs.code.ValueOrder.{order_same, order_total}
 use Rattle.td_algebra.proofs.Lists.{contains_cases, contains_first, contains_later, contains_none}
-use Rattle.td_group.specs.Aggregates.{greater, greatest_value, least_value, less}
-use Rattle.td_group.specs.Membership.{GreatestIsAMember, LeastIsAMember}
+use Rattle.td_group.specs.model.Aggregates.{greater, greatest_value, least_value, less}
+use Rattle.td_group.specs.laws.Membership.{GreatestIsAMember, LeastIsAMember}
 
 -- the first is not below the second
 abbrev NotBelow : Val → Val → Type 0

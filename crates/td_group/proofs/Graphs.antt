@@ -8,9 +8,9 @@ use Rattle.std.proofs.lemmas.List.{length_push, take-append-le, take_all, take_m
 use Rattle.std.proofs.lemmas.List.Elements.{Contains-append_cases, Contains-append_left, Contains-append_right}
 use Rattle.std.proofs.lemmas.List.Folds.{list_any-append}
 use Rattle.std.proofs.lemmas.Map.Views.{Contains-from_any, list_any-from_Contains}
-use Rattle.td_value.specs.Sets.{has}
-use Rattle.td_value.specs.Values.{Val, value_cmp}
-use Rattle.td_value.specs.ValueOrder.{order_total, value_Decides}
+use Rattle.td_value.specs.model.Sets.{has}
+use Rattle.td_value.specs.model.Values.{Val, value_cmp}
+use Rattle.td_value.specs.code.ValueOrder.{order_total, value_Decides}
 use Rattle.td_algebra.proofs.Lists.{contains_cases, contains_first, contains_later, contains_none}
 use Rattle.td_group.specs.code.Successors.{AreReached, Leads, with_value_added, all_added}
 

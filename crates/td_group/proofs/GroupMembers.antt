@@ -2,16 +2,15 @@
 use Rattle.std.proofs.Common.{◌≡◌, ◌∙◌, ap, arith, sym, refl, subst, ℕ, Bool, true, false, List, [], ◌∷◌, Some, map}
 use Rattle.std.specs.Prelude.{◌&&◌, not}
 use Rattle.std.proofs.lemmas.List.Elements.{All-from_recursion}
-use Rattle.td_types.specs.Headings.{has_attribute, has_name, has_projection, projection}
-use Rattle.td_types.specs.Types.{attribute_names, pack}
-use Rattle.td_types.specs.Types as types
-use Rattle.td_value.specs.Agreement.{AgreeOn, agree_on}
-use Rattle.td_value.specs.Values.{IsRelation, IsTupleOf, Relation, Tuple, projected_tuple, relation_value, value_at}
+use Rattle.td_types.specs.model.Headings.{has_attribute, has_name, has_projection, projection}
+use Rattle.td_types.specs.model.Types.{attribute_names, pack}
+use Rattle.td_types.specs.model.Types as types
+use Rattle.td_value.specs.model.Agreement.{AgreeOn, agree_on}
+use Rattle.td_value.specs.model.Values.{IsRelation, IsTupleOf, Relation, Tuple, projected_tuple, relation_value, value_at}
 use Rattle.td_value.proofs.Agreement.{agreement_of_values, value_of_projection}
 use Rattle.td_value.proofs.Members.{by_members, set_members}
-use Rattle.td_algebra.specs.Columns.{new_attribute}
-use Rattle.td_algebra.specs.Membership.{AreNew, IsIn}
-use Rattle.td_algebra.specs.Operators.{Addition, projected_relation, relation_names, restriction}
+use Rattle.td_algebra.specs.laws.Membership.{AreNew, IsIn}
+use Rattle.td_algebra.specs.model.Operators.{Addition, projected_relation, relation_names, restriction, new_attribute}
 use Rattle.td_algebra.proofs.Entries.{values_of_fields}
 use Rattle.td_algebra.proofs.Extensions.{extension_members}
 use Rattle.td_algebra.proofs.Lists.{contains_filter, contains_map}
@@ -19,8 +18,8 @@ use Rattle.td_algebra.proofs.Members.{second_true}
 use Rattle.td_algebra.proofs.Projections.{projection_members}
 use Rattle.td_algebra.proofs.Relations.{IsRelation-restriction, member_headed}
 use Rattle.td_algebra.proofs.Results.{IsRelation-projected}
-use Rattle.td_group.specs.Membership.{GroupByMembership, IsGroupOf}
-use Rattle.td_group.specs.Nesting.{can_nest, group_of, grouped_relation, rest_heading, rest_names}
+use Rattle.td_group.specs.laws.Membership.{GroupByMembership, IsGroupOf}
+use Rattle.td_group.specs.model.Nesting.{can_nest, group_of, grouped_relation, rest_heading, rest_names}
 use Rattle.td_group.proofs.Grouped.{rest_lacks}
 use Rattle.td_group.proofs.Nested.{value_in}
 use Rattle.td_group.proofs.Rests.{rest_of_names}

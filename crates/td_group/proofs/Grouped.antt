@@ -1,20 +1,17 @@
 -- The parts of GROUP: the rest of a heading, and the groups as a column.
 use Rattle.std.proofs.Common.{◌≡◌, ◌∙◌, ap, sym, refl, subst, ℕ, Bool, true, false, List, [], ◌∷◌, None, length, map, true≢false}
-use Rattle.std.specs.Prelude.{not, is_some, IsTrue}
+use Rattle.std.specs.Prelude.{not, is_some}
 use Rattle.std.specs.List.{All, AllByRecursion}
 use Rattle.std.proofs.lemmas.List.{length-map}
 use Rattle.std.proofs.lemmas.List.Elements.{All-from_recursion}
-use Rattle.td_types.specs.Headings.{are_distinct, has_attribute, has_attributes, has_name, has_projection, outside, projection}
-use Rattle.td_types.specs.Types.{Type', Heading, IsHeading, attribute_names, pack, type_at}
+use Rattle.td_types.specs.model.Headings.{are_distinct, has_attribute, has_attributes, has_name, has_projection, outside, projection}
+use Rattle.td_types.specs.model.Types.{Type', Heading, IsHeading, attribute_names, pack, type_at}
 use Rattle.td_types.proofs.HeadingLaws.{IsHeading-filter, has_attribute-names, type_at-projection}
-use Rattle.td_value.specs.Agreement.{agree_on}
-use Rattle.td_value.specs.Values.{Val, Relation, Tuple, relation_value, type_of}
-use Rattle.td_algebra.specs.Columns.{IsColumn}
-use Rattle.td_algebra.specs.Operators.{projected_relation, restriction}
+use Rattle.td_value.specs.model.Values.{Val, Tuple, type_of}
+use Rattle.td_algebra.specs.code.Columns.{IsColumn}
 use Rattle.td_algebra.proofs.Members.{both_true, first_true}
 use Rattle.td_algebra.proofs.Entries.{heading_distinct}
 use Rattle.td_algebra.proofs.Sources.{has_attribute-outside}
-use Rattle.td_group.specs.Groups.{groups_on}
 use Rattle.td_algebra.proofs.OnNames.{all_named}
 
 -- ---- the rest of a heading
@@ -37,24 +34,7 @@ rest_lacks part h n e = by_test (has_attribute n (outside part h)) refl
         let none : type_at n (projection (attribute_names (outside part h)) h) ≡ None = type_at-projection (attribute_names (outside part h)) n h ∙ rw unnamed refl in
         ap (λ o. not (is_some o)) none
 
--- ---- the groups
-
-groups_fit_each : (ns names : List (List ℕ)) (r : Relation) (ts : List Tuple) → has_projection names r.heading ≡ true
-    → AllByRecursion (λ (g : Tuple × Relation). IsTrue (has_projection names g.1.heading)) (groups_on ns r ts)
-groups_fit_each ns names r [] e = tt
-groups_fit_each ns names r (t ∷ ts) e = (e, groups_fit_each ns names r ts e)
-
-pub groups_fit : (ns names : List (List ℕ)) (r : Relation) (ts : List Tuple) → has_projection names r.heading ≡ true
-    → All (λ (g : Tuple × Relation). IsTrue (has_projection names g.1.heading)) (groups_on ns r ts)
-groups_fit ns names r ts e =
-    All-from_recursion (λ (g : Tuple × Relation). IsTrue (has_projection names g.1.heading)) (groups_on ns r ts) (groups_fit_each ns names r ts e)
-
--- the values of the groups, by their tuples
-pub group_column : (ns names : List (List ℕ)) (r : Relation) (ts : List Tuple)
-    → map (λ (g : Tuple × Relation). relation_value (projected_relation names g.1)) (groups_on ns r ts)
-    ≡ map (λ t. relation_value (projected_relation names (restriction (agree_on ns t) r))) ts
-group_column ns names r [] = refl
-group_column ns names r (t ∷ ts) = ap (λ vs. relation_value (projected_relation names (restriction (agree_on ns t) r)) ∷ vs) (group_column ns names r ts)
+-- ---- the groups as a column
 
 typed_each : (f : Tuple → Val) (kind : Type') (ts : List Tuple) → ((t : Tuple) → type_of (f t) ≡ kind) → AllByRecursion (λ v. type_of v ≡ kind) (map f ts)
 typed_each f kind [] h = tt

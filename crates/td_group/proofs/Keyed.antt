@@ -10,10 +10,10 @@ use Rattle.std.proofs.lemmas.Cmp.{eq_by_cmp_equiv}
 use Rattle.std.specs.List.{All}
 use Rattle.std.proofs.lemmas.List.Elements.{All-filter}
 use Rattle.std.proofs.lemmas.List.Kept.{IsStrictlySortedBy-filter}
-use Rattle.td_types.specs.Headings.{new_names}
-use Rattle.td_types.specs.Types.{Heading, attribute_names}
-use Rattle.td_value.specs.Values.{IsAscendingBody, IsTupleOf, Tuple, tuple_cmp}
-use Rattle.td_group.specs.Groups.{items_there}
+use Rattle.td_types.specs.model.Headings.{new_names}
+use Rattle.td_types.specs.model.Types.{Heading, attribute_names}
+use Rattle.td_value.specs.model.Values.{IsAscendingBody, IsTupleOf, Tuple, tuple_cmp}
+use Rattle.td_group.specs.model.Groups.{items_there}
 
 -- one item more at a key
 module _ {K X A S : Type 0} (R : K → K → Ordering) (o : IsTotalOrder R) (tell : (x y : K) → Decides (eq_by_cmp R x y) (x ≡ y)) (old mid new : HashMap K (Vec (Bor X) A) S)

@@ -5,6 +5,7 @@ pub mod Extremes
 mod Graphs
 mod GroupMembers
 mod Grouped
+mod GroupParts
 mod Keyed
 pub mod Nested
 mod NestTests

@@ -1,9 +1,9 @@
 -- Whether attributes can be put into one, and whether what is inside one can stand in its place.
 use Rattle.std.proofs.Common.{◌≡◌, ◌∙◌, ℕ, Bool, true, false, List, [], ◌∷◌, None, Option, Some, ap, refl, sym}
 use Rattle.std.specs.Prelude.{◌&&◌, ◌||◌, if◌then◌else◌, is_some, not}
-use Rattle.td_group.specs.Nesting.{can_nest}
-use Rattle.td_types.specs.Headings.{has_attribute, has_name, has_projection, have_no_common, outside, projection}
-use Rattle.td_types.specs.Types.{Heading, Type', type_at}
+use Rattle.td_group.specs.model.Nesting.{can_nest}
+use Rattle.td_types.specs.model.Headings.{has_attribute, has_name, has_projection, have_no_common, outside, projection}
+use Rattle.td_types.specs.model.Types.{Heading, Type', type_at}
 use Rattle.td_types.proofs.HeadingLaws.{type_at-outside, type_at-projection}
 
 -- the rest lacks a name that is one of those put away, and one that the heading lacks

@@ -3,12 +3,12 @@ use Rattle.std.proofs.Common.{◌≡◌, ◌∙◌, ap, sym, refl, subst, ℕ, B
 use Rattle.std.specs.Prelude.{IsTrue, if◌then◌else◌, is_some, not, option_map}
 use Rattle.std.specs.List.{All, Contains, flat_map}
 use Rattle.std.proofs.lemmas.List.Elements.{All-contains}
-use Rattle.td_types.specs.Headings.{are_distinct, has_attribute, has_projection, heading_union, projection, with_attribute, without_attribute}
-use Rattle.td_types.specs.Types.{Heading, IsHeading, Type', attribute_names, pack, same_name, unpack}
-use Rattle.td_types.specs.Types as types
+use Rattle.td_types.specs.model.Headings.{are_distinct, has_attribute, has_projection, heading_union, projection, with_attribute, without_attribute}
+use Rattle.td_types.specs.model.Types.{Heading, IsHeading, Type', attribute_names, pack, same_name, unpack}
+use Rattle.td_types.specs.model.Types as types
 use Rattle.td_types.proofs.HeadingLaws.{IsHeading-filter, has_attribute-names}
 use Rattle.td_types.proofs.Meanings.{pack_unpack}
-use Rattle.td_value.specs.Values.{AreRows, IsTupleOf, IsValue, Relation, Tuple, Val, boolean, char, fields_type, integer, projected_tuple, relation, tuple, tuple_of, tuple_value, type_of, unpack_fields, unpack_rows, user, value_at}
+use Rattle.td_value.specs.model.Values.{AreRows, IsTupleOf, IsValue, Relation, Tuple, Val, boolean, char, fields_type, integer, projected_tuple, relation, tuple, tuple_of, tuple_value, type_of, unpack_fields, unpack_rows, user, value_at}
 use Rattle.td_value.proofs.HeadingOf.{fields_type-heading}
 use Rattle.td_value.proofs.Packed.{pack_unpack_fields, pack_unpack_rows}
 use Rattle.td_value.proofs.Rows.{All-from_rows, IsTupleOf-from}
@@ -17,7 +17,7 @@ use Rattle.td_algebra.proofs.Lists.{contains_cases, contains_flat_map, contains_
 use Rattle.td_algebra.proofs.Members.{second_true}
 use Rattle.td_algebra.proofs.Projections.{IsTupleOf-projected}
 use Rattle.td_algebra.proofs.Relations.{All-from_members}
-use Rattle.td_group.specs.Nesting.{can_nest, can_unnest, heading_inside, inner_heading, is_relation_type, is_tuple_type, other_names, rest_heading, rest_names, tuples_inside, unnested_tuples, wrapped_tuple}
+use Rattle.td_group.specs.model.Nesting.{can_nest, can_unnest, heading_inside, inner_heading, is_relation_type, is_tuple_type, names_without, rest_heading, rest_names, tuples_inside, unnested_tuples, wrapped_tuple}
 use Rattle.td_group.proofs.Apart.{entry_headed, joined_headed, other_name}
 use Rattle.td_group.proofs.Rests.{rest_headed}
 
@@ -114,9 +114,9 @@ unnested_headed name r all can =
         let p = (contains_flat_map (unnested_tuples name r) r.body y).0 c in
         let u = p.0 in
         let has : IsTupleOf r.heading u = All-contains (IsTupleOf r.heading) r.body u all p.1 in
-        let q = (contains_map (λ x. tuple_of (projected_tuple (other_names name r) u ++ x)) (tuples_inside (value_at name u)) y).0 p.2 in
+        let q = (contains_map (λ x. tuple_of (projected_tuple (names_without name r) u ++ x)) (tuples_inside (value_at name u)) y).0 p.2 in
         subst (IsTupleOf (unnested_heading name r)) q.2
-        (joined_headed (without_attribute name r.heading) (inner_heading name r.heading) (projected_tuple (other_names name r) u) q.0
+        (joined_headed (without_attribute name r.heading) (inner_heading name r.heading) (projected_tuple (names_without name r) u) q.0
         (rest_headed (λ n. not (same_name n name)) r.heading u has) (inside_headed name r.heading u q.0 has q.1) can)
 
 -- an attribute of a relation type, or of a tuple type, is there

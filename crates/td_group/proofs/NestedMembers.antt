@@ -3,25 +3,25 @@ use Rattle.std.proofs.Common.{◌≡◌, ◌∙◌, ap, sym, refl, subst, ℕ, B
 use Rattle.std.specs.Prelude.{◌↔◌, ◌||◌, if◌then◌else◌, is_some, not}
 use Rattle.std.specs.Cmp.Lexicographic.{same_text}
 use Rattle.std.specs.List.{Contains, flat_map}
-use Rattle.td_types.specs.Headings.{are_distinct, has_attribute, has_name, has_projection, projection, without_attribute}
-use Rattle.td_types.specs.Types.{pack, same_name, type_at}
-use Rattle.td_types.specs.Types as types
+use Rattle.td_types.specs.model.Headings.{are_distinct, has_attribute, has_name, has_projection, projection, without_attribute}
+use Rattle.td_types.specs.model.Types.{pack, same_name, type_at}
+use Rattle.td_types.specs.model.Types as types
 use Rattle.td_types.proofs.HeadingLaws.{has_attribute-names, has_attribute-with, same_name-itself, type_at-union}
-use Rattle.td_value.specs.Agreement.{AgreeOn, agree_on}
-use Rattle.td_value.specs.Values.{IsRelation, IsTupleOf, Relation, Tuple, projected_tuple, tuple_names, tuple_of, tuple_value, value_at}
+use Rattle.td_value.specs.model.Agreement.{AgreeOn, agree_on}
+use Rattle.td_value.specs.model.Values.{IsRelation, IsTupleOf, Relation, Tuple, projected_tuple, tuple_names, tuple_of, tuple_value, value_at}
 use Rattle.td_value.proofs.Agreement.{agreement_of_values, value_of_projection}
 use Rattle.td_value.proofs.Maps.{value_at-tuple_of}
 use Rattle.td_value.proofs.Members.{set_members}
-use Rattle.td_algebra.specs.Membership.{IsIn}
-use Rattle.td_algebra.specs.Operators.{common_names, restriction}
+use Rattle.td_algebra.specs.laws.Membership.{IsIn}
+use Rattle.td_algebra.specs.model.Operators.{common_names, restriction}
 use Rattle.td_algebra.proofs.Entries.{distinct_append, has_name-heading, same_on_heading, tuple_distinct, value_at-append}
 use Rattle.td_algebra.proofs.Lists.{contains_filter, contains_flat_map, contains_map}
 use Rattle.td_algebra.proofs.Members.{second_true}
 use Rattle.td_algebra.proofs.Relations.{member_headed, rows_headed}
 use Rattle.std.proofs.lemmas.List.Elements.{All-contains}
-use Rattle.td_group.specs.Groups.{groups}
-use Rattle.td_group.specs.Membership.{GroupsByMembership, UnnestByMembership, WrapByMembership}
-use Rattle.td_group.specs.Nesting.{can_nest, can_unnest, inner_heading, other_names, rest_heading, rest_names, tuples_inside, unnested_relation, unnested_tuples, wrapped_relation, wrapped_tuple}
+use Rattle.td_group.specs.model.Groups.{groups}
+use Rattle.td_group.specs.laws.Membership.{GroupsByMembership, UnnestByMembership, WrapByMembership}
+use Rattle.td_group.specs.model.Nesting.{can_nest, can_unnest, inner_heading, names_without, rest_heading, rest_names, tuples_inside, unnested_relation, unnested_tuples, wrapped_relation, wrapped_tuple}
 use Rattle.td_group.proofs.Apart.{apart}
 use Rattle.td_group.proofs.Nested.{inside_headed, unnested_headed, wrapped_headed}
 use Rattle.td_group.proofs.Rests.{rest_headed}
@@ -111,7 +111,7 @@ wrap_by_membership names name r t p can q = (there, back)
 
 module _ (name : List ℕ) (r : Relation) (can : can_unnest name r.heading ≡ true) (u x : Tuple) (has : IsTupleOf r.heading u) (inside : Contains (tuples_inside (value_at name u)) x) where
   abbrev other_part : Tuple
-  other_part = projected_tuple (other_names name r) u
+  other_part = projected_tuple (names_without name r) u
 
   other_part_headed : IsTupleOf (without_attribute name r.heading) other_part
   other_part_headed = rest_headed (λ n. not (same_name n name)) r.heading u has
@@ -134,17 +134,17 @@ module _ (name : List ℕ) (r : Relation) (can : can_unnest name r.heading ≡ t
       together_value n other_part x (distinct_append other_part x (tuple_distinct other_part other_part_headed.0) (tuple_distinct x inner_headed.0) names_apart)
       ∙ ap (λ b. if b then value_at n other_part else value_at n x) (has_name-heading (without_attribute name r.heading) other_part other_part_headed n)
 
-  unnested_rest : AgreeOn (other_names name r) (tuple_of (other_part ++ x)) u
+  unnested_rest : AgreeOn (names_without name r) (tuple_of (other_part ++ x)) u
   unnested_rest n there =
       let in_rest : has_attribute n (without_attribute name r.heading) ≡ true = has_attribute-names n (without_attribute name r.heading) ∙ there in
-      unnested_value n ∙ ap (λ b. if b then value_at n other_part else value_at n x) in_rest ∙ kept_value (other_names name r) u n there
+      unnested_value n ∙ ap (λ b. if b then value_at n other_part else value_at n x) in_rest ∙ kept_value (names_without name r) u n there
 
   unnested_inside : AgreeOn (tuple_names x) (tuple_of (other_part ++ x)) x
   unnested_inside n there =
       let outside_rest : has_attribute n (without_attribute name r.heading) ≡ false = none_of_rest n (sym (has_name-heading (inner_heading name r.heading) x inner_headed n) ∙ there) in
       unnested_value n ∙ ap (λ b. if b then value_at n other_part else value_at n x) outside_rest
 
-  unnested_from : (t : Tuple) → IsTupleOf (unnested_relation name r).heading t → AgreeOn (other_names name r) t u → AgreeOn (tuple_names x) t x
+  unnested_from : (t : Tuple) → IsTupleOf (unnested_relation name r).heading t → AgreeOn (names_without name r) t u → AgreeOn (tuple_names x) t x
       → IsTupleOf (unnested_relation name r).heading (tuple_of (other_part ++ x)) → tuple_of (other_part ++ x) ≡ t
   unnested_from t q rest own w =
       same_on_heading (unnested_relation name r).heading (tuple_of (other_part ++ x)) t w q (λ n there. by_name n (has_attribute n (without_attribute name r.heading)) refl
@@ -154,7 +154,7 @@ module _ (name : List ℕ) (r : Relation) (can : can_unnest name r.heading ≡ t
           → is_some (if b then type_at n (without_attribute name r.heading) else type_at n (inner_heading name r.heading)) ≡ true
           → value_at n (tuple_of (other_part ++ x)) ≡ value_at n t
       by_name n true e there =
-          let named : has_name n (other_names name r) ≡ true = sym (has_attribute-names n (without_attribute name r.heading)) ∙ e in
+          let named : has_name n (names_without name r) ≡ true = sym (has_attribute-names n (without_attribute name r.heading)) ∙ e in
           unnested_rest n named ∙ sym (rest n named)
       by_name n false e there =
           let named : has_name n (tuple_names x) ≡ true = has_name-heading (inner_heading name r.heading) x inner_headed n ∙ there in
@@ -164,23 +164,23 @@ pub unnest_by_membership : UnnestByMembership
 unnest_by_membership name r t p can q = (there, back)
   where
     there : IsIn t (unnested_relation name r)
-        → (u : Tuple) × (x : Tuple) × IsIn u r × Contains (tuples_inside (value_at name u)) x × AgreeOn (other_names name r) t u × AgreeOn (tuple_names x) t x
+        → (u : Tuple) × (x : Tuple) × IsIn u r × Contains (tuples_inside (value_at name u)) x × AgreeOn (names_without name r) t u × AgreeOn (tuple_names x) t x
     there c =
         let d = (contains_flat_map (unnested_tuples name r) r.body t).0 ((set_members (flat_map (unnested_tuples name r) r.body) t).0 c) in
-        let e = (contains_map (λ x. tuple_of (projected_tuple (other_names name r) d.0 ++ x)) (tuples_inside (value_at name d.0)) t).0 d.2 in
+        let e = (contains_map (λ x. tuple_of (projected_tuple (names_without name r) d.0 ++ x)) (tuples_inside (value_at name d.0)) t).0 d.2 in
         let has = member_headed r d.0 p d.1 in
         (d.0, e.0, d.1, e.1, (λ n f. ap (value_at n) (sym e.2) ∙ unnested_rest name r can d.0 e.0 has e.1 n f), (λ n f. ap (value_at n) (sym e.2) ∙ unnested_inside name r can d.0 e.0 has e.1 n f))
 
-    back : (u : Tuple) × (x : Tuple) × IsIn u r × Contains (tuples_inside (value_at name u)) x × AgreeOn (other_names name r) t u × AgreeOn (tuple_names x) t x
+    back : (u : Tuple) × (x : Tuple) × IsIn u r × Contains (tuples_inside (value_at name u)) x × AgreeOn (names_without name r) t u × AgreeOn (tuple_names x) t x
         → IsIn t (unnested_relation name r)
     back d =
         let has = member_headed r d.0 p d.2 in
-        let own = (contains_flat_map (unnested_tuples name r) r.body (tuple_of (projected_tuple (other_names name r) d.0 ++ d.1))).1 (
+        let own = (contains_flat_map (unnested_tuples name r) r.body (tuple_of (projected_tuple (names_without name r) d.0 ++ d.1))).1 (
           d.0,
           d.2,
-          (contains_map (λ x. tuple_of (projected_tuple (other_names name r) d.0 ++ x)) (tuples_inside (value_at name d.0)) (tuple_of (projected_tuple (other_names name r) d.0 ++ d.1))).1 (d.1, d.3, refl),
+          (contains_map (λ x. tuple_of (projected_tuple (names_without name r) d.0 ++ x)) (tuples_inside (value_at name d.0)) (tuple_of (projected_tuple (names_without name r) d.0 ++ d.1))).1 (d.1, d.3, refl),
         ) in
-        let w = All-contains (IsTupleOf (unnested_relation name r).heading) (flat_map (unnested_tuples name r) r.body) (tuple_of (projected_tuple (other_names name r) d.0 ++ d.1))
+        let w = All-contains (IsTupleOf (unnested_relation name r).heading) (flat_map (unnested_tuples name r) r.body) (tuple_of (projected_tuple (names_without name r) d.0 ++ d.1))
         (unnested_headed name r (rows_headed r p) can) own in
         (set_members (flat_map (unnested_tuples name r) r.body) t).1
         (subst (Contains (flat_map (unnested_tuples name r) r.body)) (unnested_from name r can d.0 d.1 has d.3 t q d.4 d.5 w) own)

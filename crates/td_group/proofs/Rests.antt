@@ -1,10 +1,10 @@
 -- What is left of a heading, and of its tuples, without some attributes.
 use Rattle.std.proofs.Common.{◌≡◌, ◌∙◌, ap, sym, refl, subst, ℕ, Bool, true, false, List, Option, None, Some, filter}
 use Rattle.std.specs.Prelude.{if◌then◌else◌, is_some}
-use Rattle.td_types.specs.Headings.{projection}
-use Rattle.td_types.specs.Types.{Heading, IsHeading, attribute_names, pack, type_at}
+use Rattle.td_types.specs.model.Headings.{projection}
+use Rattle.td_types.specs.model.Types.{Heading, IsHeading, attribute_names, pack, type_at}
 use Rattle.td_types.proofs.HeadingLaws.{IsAscending-filter, IsAscending-projection, ascending_from_heading, has_attribute-names, type_at-filter, type_at-projection, types_determine_heading}
-use Rattle.td_value.specs.Values.{IsTupleOf, Tuple, projected_tuple}
+use Rattle.td_value.specs.model.Values.{IsTupleOf, Tuple, projected_tuple}
 use Rattle.td_algebra.proofs.Projections.{IsTupleOf-projected}
 
 -- the attributes whose names pass a test

@@ -3,18 +3,18 @@ use Rattle.std.proofs.Common.{◌≡◌, ◌∙◌, ◌⊎◌, inl, inr, ap, sym
 use Rattle.std.specs.Prelude.{◌&&◌, ◌||◌, if◌then◌else◌, is_some, not}
 use Rattle.std.specs.Cmp.Lexicographic.{same_text}
 use Rattle.std.specs.List.{Contains, flat_map}
-use Rattle.td_types.specs.Headings.{has_attribute, has_name, has_projection, have_no_common, heading_union, projection, without_attribute}
+use Rattle.td_types.specs.model.Headings.{has_attribute, has_name, has_projection, have_no_common, heading_union, projection, without_attribute}
 use Rattle.td_types.specs.code.TypeCode.{unpack_pack}
-use Rattle.td_types.specs.Types.{Heading, IsHeading, Type', attribute_names, pack, same_name, type_at}
-use Rattle.td_types.specs.Types as types
+use Rattle.td_types.specs.model.Types.{Heading, IsHeading, Type', attribute_names, pack, same_name, type_at}
+use Rattle.td_types.specs.model.Types as types
 use Rattle.td_types.proofs.HeadingLaws.{IsAscending-union, IsAscending-without, IsHeading-filter, IsHeading-with, ascending_from_heading, has_attribute-names, same_name-itself, type_at-outside, type_at-projection, type_at-union, type_at-with, type_at-without, types_determine_heading}
-use Rattle.td_value.specs.Agreement.{AgreeOn, agree_on}
+use Rattle.td_value.specs.model.Agreement.{AgreeOn, agree_on}
 use Rattle.td_value.specs.code.ValueCode.{unpack_pack_fields, unpack_pack_rows}
-use Rattle.td_value.specs.Values.{IsRelation, IsTupleOf, Relation, Tuple, pack_fields, projected_tuple, relation_value, tuple_names, tuple_value, unpack_fields, value_at}
+use Rattle.td_value.specs.model.Values.{IsRelation, IsTupleOf, Relation, Tuple, pack_fields, projected_tuple, relation_value, tuple_names, tuple_value, unpack_fields, value_at}
 use Rattle.td_value.proofs.Agreement.{value_of_projection}
 use Rattle.td_value.proofs.Members.{by_members, set_members}
-use Rattle.td_algebra.specs.Membership.{IsIn}
-use Rattle.td_algebra.specs.Operators.{extended_tuple, restriction}
+use Rattle.td_algebra.specs.laws.Membership.{IsIn}
+use Rattle.td_algebra.specs.model.Operators.{extended_tuple, restriction}
 use Rattle.td_algebra.proofs.Extensions.{extended_values}
 use Rattle.td_algebra.proofs.Results.{IsRelation-extended, IsRelation-projected}
 use Rattle.td_algebra.proofs.Entries.{has_name-heading, same_on_heading}
@@ -23,8 +23,8 @@ use Rattle.td_algebra.proofs.Members.{both_true, second_true}
 use Rattle.td_algebra.proofs.Projections.{IsTupleOf-projected}
 use Rattle.td_algebra.proofs.Relations.{IsRelation-relation_of, IsRelation-restriction, member_headed, rows_headed}
 use Rattle.td_algebra.proofs.Sources.{has_attribute-outside}
-use Rattle.td_group.specs.Membership.{UngroupUndoesGroup, UnwrapUndoesWrap}
-use Rattle.td_group.specs.Nesting.{can_nest, can_unnest, heading_inside, group_of, grouped_relation, inner_heading, other_names, rest_heading, rest_names, tuples_inside, unnested_relation, unnested_tuples, wrapped_relation, wrapped_tuple}
+use Rattle.td_group.specs.laws.Membership.{UngroupUndoesGroup, UnwrapUndoesWrap}
+use Rattle.td_group.specs.model.Nesting.{can_nest, can_unnest, heading_inside, group_of, grouped_relation, inner_heading, names_without, rest_heading, rest_names, tuples_inside, unnested_relation, unnested_tuples, wrapped_relation, wrapped_tuple}
 use Rattle.td_group.proofs.GroupMembers.{addition, addition_new, group_by_membership, is_group, keys, keys_are}
 use Rattle.td_group.proofs.Rests.{rest_of_names}
 use Rattle.td_group.proofs.Nested.{unnested_headed, wrapped_headed}
@@ -119,7 +119,7 @@ module _ (names : List (List ℕ)) (name : List ℕ) (r whole : Relation) (kind 
   again : (unnested_relation name whole).heading ≡ r.heading
   again = heading_again names name r.heading whole.heading kind p.2 new whole_is.2 types_are inside
 
-  others : (n : List ℕ) → has_name n (other_names name whole) ≡ has_name n (rest_names names r)
+  others : (n : List ℕ) → has_name n (names_without name whole) ≡ has_name n (rest_names names r)
   others n =
       sym (has_attribute-names n (without_attribute name whole.heading)) ∙ others_are names name r.heading whole.heading kind p.2 new whole_is.2 types_are inside n
       ∙ has_attribute-names n (rest_heading names r.heading)

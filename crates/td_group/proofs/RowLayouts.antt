@@ -5,10 +5,11 @@ use Rattle.std.specs.List.{All, flat_map, zip}
 use Rattle.std.specs.List.Sorted.{IsPermutation}
 use Rattle.std.proofs.lemmas.List.{length-append, length-map}
 use Rattle.std.proofs.lemmas.List.Elements.{All-contains}
-use Rattle.td_types.specs.Headings.{are_distinct, has_attribute, has_name, have_no_common, outside, projection, without_attribute}
-use Rattle.td_types.specs.Types.{Heading, IsHeading, attribute_names, pack}
+use Rattle.std.proofs.lemmas.List.Sorted.{IsPermutation-sym}
+use Rattle.td_types.specs.model.Headings.{are_distinct, has_attribute, has_name, have_no_common, outside, projection, without_attribute}
+use Rattle.td_types.specs.model.Types.{Heading, IsHeading, attribute_names, pack}
 use Rattle.td_types.proofs.HeadingLaws.{IsHeading-filter, has_attribute-names}
-use Rattle.td_value.specs.Values.{IsTupleOf, Relation, Tuple, Val, projected_tuple, tuple_of, tuple_value, value_at}
+use Rattle.td_value.specs.model.Values.{IsTupleOf, Relation, Tuple, Val, projected_tuple, tuple_of, tuple_value, value_at}
 use Rattle.td_value.specs.code.Views.{values_of}
 use Rattle.td_value.proofs.Zips.{unzipped}
 use Rattle.td_algebra.specs.code.Layouts.{AreInRange, Sources, entries_taken, numbered_sources, placed_tuple, sources_outside, sources_with}
@@ -21,7 +22,7 @@ use Rattle.td_algebra.proofs.Pairs.{same_tuple}
 use Rattle.td_algebra.proofs.Relations.{All-from_members}
 use Rattle.td_algebra.proofs.Sources.{has_attribute-outside, taken-append, taken_outside}
 use Rattle.td_algebra.proofs.Taken.{layout_in_range, map_alike, placed_projection, taken_numbered}
-use Rattle.td_group.specs.Nesting.{inner_heading, other_names, rest_heading, tuples_inside, unnested_tuples, wrapped_tuple}
+use Rattle.td_group.specs.model.Nesting.{inner_heading, names_without, rest_heading, tuples_inside, unnested_tuples, wrapped_tuple}
 use Rattle.td_group.proofs.Apart.{none_common}
 use Rattle.td_group.proofs.Nested.{inside_headed}
 
@@ -128,7 +129,7 @@ module _ (name : List ℕ) (r : Relation) (all : All (IsTupleOf r.heading) r.bod
 
   pub unnested_made : pairs_with (λ u. tuples_inside (value_at name u)) (pair_tuple layout) r.body ≡ flat_map (unnested_tuples name r) r.body
   unnested_made =
-      let joined : Tuple → Tuple → Tuple = λ u x. tuple_of (projected_tuple (other_names name r) u ++ x) in
+      let joined : Tuple → Tuple → Tuple = λ u x. tuple_of (projected_tuple (names_without name r) u ++ x) in
       pairs_alike (λ u. tuples_inside (value_at name u)) (pair_tuple layout) joined r.body
       (All-from_members (λ u. All (λ x. pair_tuple layout u x ≡ joined u x) (tuples_inside (value_at name u))) r.body (λ u c.
       let has : IsTupleOf r.heading u = All-contains (IsTupleOf r.heading) r.body u all c in
@@ -151,6 +152,11 @@ module _ (names : List (List ℕ)) (r : Relation) (all : All (IsTupleOf r.headin
       All-from_members (λ t. AreInRange layout (values_of t)) r.body (λ t c.
       subst (AreInRange layout) (append-nil (values_of t)) (row_in_range rest r.heading t (All-contains (IsTupleOf r.heading) r.body t all c) [] [] refl layout
       (subst (λ g. IsPermutation (sources_with rest g []) layout) own given)))
+
+  -- each is the projection on the names
+  pub part_placed : (t : Tuple) → IsTupleOf r.heading t → AreInRange layout (values_of t) → placed_tuple layout (values_of t) ≡ projected_tuple names t
+  part_placed t p range =
+      same_tuple layout part_sources (values_of t) (IsPermutation-sym part_sources layout part_laid) range ∙ placed_projection names r.heading t p
 
   pub parts_made : (parts rows : List Tuple) → rows ≡ r.body
       → ((sources : Sources) → IsPermutation sources layout → parts ≡ map (λ t. placed_tuple sources (values_of t)) rows)

@@ -3,10 +3,10 @@ use Rattle.std.proofs.Common.{◌≡◌, ◌∙◌, ◌+◌, ◌<◌, ap, sym, r
 use Rattle.std.proofs.lemmas.List.{take_more}
 use Rattle.std.proofs.Math.IntN.{+ℤ_assoc, +ℤ_idl, +ℤ_idr}
 use Rattle.std.specs.Ordering.{is_lt}
-use Rattle.td_value.specs.Values.{value_cmp}
+use Rattle.td_value.specs.model.Values.{value_cmp}
 use Rattle.std.specs.Prelude.{◌+ℤ◌}
-use Rattle.td_value.specs.Values.{Val}
-use Rattle.td_group.specs.Aggregates.{greater, greatest_value, least_value, less, summand, sum_of}
+use Rattle.td_value.specs.model.Values.{Val}
+use Rattle.td_group.specs.model.Aggregates.{greater, greatest_value, least_value, less, summand, sum_of}
 
 pub sum_more : (vs : List Val) (w : Val) → sum_of (vs ++ w ∷ []) ≡ (sum_of vs +ℤ summand w)
 sum_more [] w = +ℤ_idr (summand w) ∙ sym (+ℤ_idl (summand w))

@@ -9,11 +9,11 @@ use Rattle.std.specs.Ordering.{eq_by_cmp}
 use Rattle.std.proofs.lemmas.Cmp.{eq_by_cmp_equiv}
 use Rattle.std.proofs.lemmas.List.{flat_map_more, map-append, take_more}
 use Rattle.std.proofs.lemmas.List.Elements.{Contains-append_cases, Contains-append_left, Contains-append_right}
-use Rattle.td_value.specs.Sets.{has}
-use Rattle.td_value.specs.Values.{Val, Tuple, value_cmp}
-use Rattle.td_value.specs.ValueOrder.{order_total}
+use Rattle.td_value.specs.model.Sets.{has}
+use Rattle.td_value.specs.model.Values.{Val, Tuple, value_cmp}
+use Rattle.td_value.specs.code.ValueOrder.{order_total}
 use Rattle.td_algebra.proofs.Lists.{contains_cases, contains_first, contains_later, contains_map, contains_none}
-use Rattle.td_group.specs.Groups.{items_there}
+use Rattle.td_group.specs.model.Groups.{items_there}
 use Rattle.td_group.specs.code.Successors.{ArePairsFrom, AreReached, AreSeen, HaveSameValues, Leads, pair_of, start_of, successors_at}
 use Rattle.td_group.proofs.Graphs.{has-pushed}
 

@@ -1,11 +1,11 @@
 -- Worked examples: what the definitions compute of small relations.
 use Rattle.std.proofs.Common.{◌≡◌, refl, ℕ, pos, List, [], ◌∷◌}
-use Rattle.td_group.specs.Aggregates.{greatest_value, least_value, sum_of}
-use Rattle.td_group.specs.Closure.{closure}
-use Rattle.td_group.specs.Nesting.{grouped_relation, unnested_relation, wrapped_relation}
-use Rattle.td_types.specs.Types.{Heading, pack}
-use Rattle.td_types.specs.Types as types
-use Rattle.td_value.specs.Values.{Val, integer, Tuple, Relation, relation_of, relation_value, tuple_value}
+use Rattle.td_group.specs.model.Aggregates.{greatest_value, least_value, sum_of}
+use Rattle.td_group.specs.model.Closure.{closure}
+use Rattle.td_group.specs.model.Nesting.{grouped_relation, unnested_relation, wrapped_relation}
+use Rattle.td_types.specs.model.Types.{Heading, pack}
+use Rattle.td_types.specs.model.Types as types
+use Rattle.td_value.specs.model.Values.{Val, integer, Tuple, Relation, relation_of, relation_value, tuple_value}
 
 -- the names A, B and X
 abbrev a : List ℕ

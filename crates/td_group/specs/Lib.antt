@@ -1,6 +1,3 @@
-pub mod Aggregates
-pub mod Closure
-pub mod Groups
-pub mod Membership
-pub mod Nesting
 pub mod code
+pub mod laws
+pub mod model

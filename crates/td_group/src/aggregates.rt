@@ -1,8 +1,8 @@
 //! COUNT, SUM, MAX and MIN of values.
 ghost use Rattle.std.specs.Prelude.{◌≡◌, ◌-◌, ◌^◌, ◌+ℤ◌, ◌≤ℤ◌, ℤ, pos};
-ghost use Rattle.td_group.specs.Aggregates.{aggregate, greatest_value, least_value, summand};
-ghost use Rattle.td_group.specs.Aggregates.{sum_of};
-ghost use Rattle.td_tree.specs.Outcomes.{Answers};
+ghost use Rattle.td_group.specs.model.Aggregates.{aggregate, greatest_value, least_value, summand};
+ghost use Rattle.td_group.specs.model.Aggregates.{sum_of};
+ghost use Rattle.td_tree.specs.model.Outcomes.{Answers};
 
 use td_tree::cause::Cause;
 use td_tree::fault::Fault;

@@ -3,14 +3,14 @@ ghost use Rattle.std.specs.Prelude.{◌≡◌, ◌∷◌, ◌++◌, [], IfOk, Is
 ghost use Rattle.std.specs.Prelude.{option_map};
 ghost use Rattle.std.specs.Prelude.{if◌then◌else◌};
 ghost use Rattle.std.specs.Ordering.{eq_by_cmp};
-ghost use Rattle.td_group.specs.Closure.{closure};
+ghost use Rattle.td_group.specs.model.Closure.{closure};
 ghost use Rattle.td_group.specs.code.Successors.{AreReached, AreSeen, AreSuccessors};
 ghost use Rattle.td_group.specs.code.Successors.{HaveSameValues};
 ghost use Rattle.td_group.specs.code.Successors.{ArePairsFrom, with_value_added, all_added, led_to};
 ghost use Rattle.td_group.specs.code.Successors.{ends_of};
 ghost use Rattle.td_group.specs.code.Successors.{pair_of, start_of, starts_in, successors_at};
-ghost use Rattle.td_types.specs.Headings.{is_closable};
-ghost use Rattle.td_value.specs.Values.{Tuple, Val, value_cmp};
+ghost use Rattle.td_types.specs.model.Headings.{is_closable};
+ghost use Rattle.td_value.specs.model.Values.{Tuple, Val, value_cmp};
 ghost use Rattle.td_value.specs.code.Blocks.{making};
 
 use crate::groups::attribute_names;

@@ -1,11 +1,12 @@
 //! Tuples, each with the relation of the tuples that agree with it. They are found by a look-up of
 //! their values on the names.
 ghost use Rattle.std.specs.Prelude.{◌≡◌, IfOk, IsTrue};
-ghost use Rattle.td_algebra.specs.Lookups.{AreWithin, partners_in};
-ghost use Rattle.td_group.specs.Groups.{groups, groups_on};
-ghost use Rattle.td_types.specs.Headings.{agree, has_attributes};
-ghost use Rattle.td_types.specs.Types.{attribute_names};
-ghost use Rattle.td_value.specs.code.Views.{relation_view, values_of};
+ghost use Rattle.td_algebra.specs.code.Lookups.{AreWithin, partners_in};
+ghost use Rattle.td_group.specs.model.Groups.{groups, groups_on};
+ghost use Rattle.td_types.specs.model.Headings.{agree, has_attributes};
+ghost use Rattle.td_types.specs.model.Types.{attribute_names};
+ghost use Rattle.td_value.specs.model.Values.{relation_view};
+ghost use Rattle.td_value.specs.code.Views.{values_of};
 
 use std::alloc::{AllocError, Global};
 use td_algebra::lookup::{Lookup, common_places};
@@ -47,7 +48,7 @@ fn group_of(
 {
     rel.reveal();
     let rows = partners_of(alloc, lookup, places, tuple)?;
-    Rel::of_ascending(rel.heading().try_clone()?, rows)
+    rel.with_body(rows)
 }
 
 /// Each tuple of `per` with the relation of those that agree with it on the common attributes.

@@ -1,11 +1,11 @@
 //! What grouping, aggregates and closure are to their callers: each function has its contract
 //! alone.
-ghost use Rattle.td_group.specs.Membership.{ClosureByChains, ClosureIsIdempotent, ClosureIsLeast};
-ghost use Rattle.td_group.specs.Membership.{GreatestIsAMember, GroupByMembership};
-ghost use Rattle.td_group.specs.Membership.{GroupsByMembership, LeastIsAMember};
-ghost use Rattle.td_group.specs.Membership.{UngroupUndoesGroup, UnnestByMembership};
-ghost use Rattle.td_group.specs.Membership.{UnwrapUndoesWrap};
-ghost use Rattle.td_group.specs.Membership.{WrapByMembership};
+ghost use Rattle.td_group.specs.laws.Membership.{ClosureByChains, ClosureIsIdempotent};
+ghost use Rattle.td_group.specs.laws.Membership.{ClosureIsLeast, GreatestIsAMember};
+ghost use Rattle.td_group.specs.laws.Membership.{GroupByMembership, GroupsByMembership};
+ghost use Rattle.td_group.specs.laws.Membership.{LeastIsAMember, UngroupUndoesGroup};
+ghost use Rattle.td_group.specs.laws.Membership.{UnnestByMembership, UnwrapUndoesWrap};
+ghost use Rattle.td_group.specs.laws.Membership.{WrapByMembership};
 
 /// GROUP: some tuple of the operand agrees with it on the rest, and its new attribute has the set
 /// of the parts of all such tuples.

@@ -2,8 +2,8 @@
 ghost use Rattle.std.specs.Prelude.{◌++◌, IfOk, IsTrue};
 ghost use Rattle.std.specs.List.Sorted.{IsPermutation};
 ghost use Rattle.td_algebra.specs.code.Layouts.{sources_with};
-ghost use Rattle.td_types.specs.Headings.{are_distinct, outside};
-ghost use Rattle.td_types.specs.Types.{attribute_names};
+ghost use Rattle.td_types.specs.model.Headings.{are_distinct, outside};
+ghost use Rattle.td_types.specs.model.Types.{attribute_names};
 
 use std::alloc::{AllocError, Global};
 use td_algebra::layout::{Layout, put_names, put_sources};

@@ -1,6 +1,6 @@
 //! Tests of what the operators that nest and unnest attributes ask.
 ghost use Rattle.std.specs.Prelude.{◌≡◌};
-ghost use Rattle.td_group.specs.Nesting.{can_nest, can_unnest};
+ghost use Rattle.td_group.specs.model.Nesting.{can_nest, can_unnest};
 
 use td_tree::name::Name;
 use td_types::heading::Heading;

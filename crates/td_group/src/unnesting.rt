@@ -2,11 +2,11 @@
 ghost use Rattle.std.specs.Prelude.{◌≡◌, ◌++◌, IfOk, IsTrue, OnOk, Some, map};
 ghost use Rattle.std.specs.List.{All};
 ghost use Rattle.td_algebra.specs.code.Pairs.{IsPaired, pair_tuple, pairs_with};
-ghost use Rattle.td_group.specs.Nesting.{can_unnest, inner_heading, is_relation_type};
-ghost use Rattle.td_group.specs.Nesting.{is_tuple_type, tuples_inside, unnested_relation};
-ghost use Rattle.td_types.specs.Headings.{has_attribute};
-ghost use Rattle.td_types.specs.Types.{type_at};
-ghost use Rattle.td_value.specs.Values.{value_at};
+ghost use Rattle.td_group.specs.model.Nesting.{can_unnest, inner_heading, is_relation_type};
+ghost use Rattle.td_group.specs.model.Nesting.{is_tuple_type, tuples_inside, unnested_relation};
+ghost use Rattle.td_types.specs.model.Headings.{has_attribute};
+ghost use Rattle.td_types.specs.model.Types.{type_at};
+ghost use Rattle.td_value.specs.model.Values.{value_at};
 
 use crate::groups::attribute_names;
 use crate::layouts::row_layout;

@@ -3,8 +3,8 @@ ghost use Rattle.std.specs.Prelude.{◌≡◌, ◌∷◌, ◌++◌, [], IfOk, Is
 ghost use Rattle.std.specs.List.{All};
 ghost use Rattle.std.specs.List.Sorted.{IsPermutation};
 ghost use Rattle.td_algebra.specs.code.Layouts.{AreInRange, Sources, placed_tuple};
-ghost use Rattle.td_group.specs.Nesting.{can_nest, wrapped_relation};
-ghost use Rattle.td_value.specs.Values.{Tuple, Val, tuple_value};
+ghost use Rattle.td_group.specs.model.Nesting.{can_nest, wrapped_relation};
+ghost use Rattle.td_value.specs.model.Values.{Tuple, Val, tuple_value};
 ghost use Rattle.td_value.specs.code.Views.{values_of};
 
 use crate::layouts::row_layout;
@@ -19,7 +19,11 @@ use td_value::tuple::Tuple;
 use td_value::value::Value;
 
 /// The tuples that the layout makes of the rows.
-fn parts_of(alloc: Global, layout: &Layout, rows: &[Tuple]) -> Result<Vec<Tuple>, AllocError>
+pub(crate) fn wrapped_parts(
+    alloc: Global,
+    layout: &Layout,
+    rows: &[Tuple],
+) -> Result<Vec<Tuple>, AllocError>
     requires { All (λ t. AreInRange layout.now (values_of t)) rows.now }
     ensures { (sources : Sources) → IsPermutation sources layout.now
         → IfOk result (λ parts. parts.items
@@ -66,7 +70,7 @@ pub fn wrap(alloc: Global, rel: &Rel, names: &[Name], name: Name) -> Result<Rel,
     let part = without_refusal(heading.project(names))?;
     let rest = heading.lacking(&part)?;
     let part_layout = row_layout(alloc, &rest, heading, &[])?;
-    let parts = parts_of(alloc, &part_layout, rel.rows())?;
+    let parts = wrapped_parts(alloc, &part_layout, rel.rows())?;
     let layout = row_layout(alloc, &part, heading, &[name.try_clone()?])?;
     let rows = wrapped_rows(alloc, &layout, rel.rows(), &parts)?;
     let heading = without_refusal(rest.with(name, Ty::Tup(part)))?;

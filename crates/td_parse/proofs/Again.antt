@@ -10,15 +10,15 @@ use Rattle.td_tree.specs.declared.operator.Operator.TheVariants as operators
 use Rattle.td_parse.specs.declared.operators.Link.TheVariants as links
 use Rattle.td_tree.specs.declared.operator.Prefix.TheVariants as prefixes
 use Rattle.td_tree.specs.declared.token.Sign.TheVariants as signs
-use Rattle.td_tree.specs.Grammar.{tighter, comparison_word, BeginsOtherwise, PostfixSpelling}
-use Rattle.td_tree.specs.Heights.{height}
-use Rattle.td_tree.specs.Lexemes.{Lexeme, keyword, sign}
-use Rattle.td_tree.specs.Lexemes as lexeme
-use Rattle.td_parse.specs.Reading.{Read, postfixes, postfix_expression, extract_expression, prefix_expression, unary_expression, operations, chain, multiplicative, additive, relational, compared_to, comparison_expression, negation_expression, conjunction, disjunction, restriction, binding, by_level, read}
-use Rattle.td_parse.specs.ReadingOperators.{link_level, link_words, linked_tree, link_at, prefix_at, extraction_at, postfix_at}
-use Rattle.td_parse.specs.ReadingSteps.{◌>>=◌, expect}
-use Rattle.td_tree.specs.Trees as tree
-use Rattle.td_tree.specs.Trees.{Text, Tree, Postfix}
+use Rattle.td_tree.specs.model.Grammar.{tighter, comparison_word, BeginsOtherwise, PostfixSpelling}
+use Rattle.td_tree.specs.model.Heights.{height}
+use Rattle.td_tree.specs.model.Lexemes.{Lexeme, keyword, sign}
+use Rattle.td_tree.specs.model.Lexemes as lexeme
+use Rattle.td_parse.specs.code.Reading.{Read, postfixes, postfix_expression, extract_expression, prefix_expression, unary_expression, operations, chain, multiplicative, additive, relational, compared_to, comparison_expression, negation_expression, conjunction, disjunction, restriction, binding, by_level, read}
+use Rattle.td_parse.specs.code.ReadingOperators.{link_level, link_words, linked_tree, link_at, prefix_at, extraction_at, postfix_at}
+use Rattle.td_parse.specs.code.ReadingSteps.{◌>>=◌, expect}
+use Rattle.td_tree.specs.model.Trees as tree
+use Rattle.td_tree.specs.model.Trees.{Text, Tree, Postfix}
 use Rattle.td_parse.proofs.AgainNames.{postfix_again, postfix_is}
 use Rattle.td_parse.proofs.Begins.{Begins, begins_no}
 use Rattle.td_parse.proofs.BeginsPlain.{from, IsPlain, Plain}

@@ -1,9 +1,9 @@
 -- Lists that are spelled are read again.
 use Rattle.std.proofs.Common.{◌≡◌, ℕ, zero, suc, ◌≤◌, List, [], ◌∷◌, ◌++◌, length, Some, None, refl, append_assoc, arith, length-append}
 use Rattle.td_tree.specs.declared.token.Sign.TheVariants as signs
-use Rattle.td_tree.specs.Lexemes.{Lexeme, sign}
-use Rattle.td_tree.specs.Lists.{Separated, one_item, next_item}
-use Rattle.td_parse.specs.ReadingSteps.{ReadOf, expect, read_up_to, in_parentheses_read, in_braces_read, separated_from, list_by_commas, listed_to}
+use Rattle.td_tree.specs.model.Lexemes.{Lexeme, sign}
+use Rattle.td_tree.specs.model.Lists.{Separated, one_item, next_item}
+use Rattle.td_parse.specs.code.ReadingSteps.{ReadOf, expect, read_up_to, in_parentheses_read, in_braces_read, separated_from, list_by_commas, listed_to}
 
 abbrev pub comma : Lexeme
 comma = sign signs.Comma

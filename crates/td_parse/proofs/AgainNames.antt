@@ -3,16 +3,16 @@ use Rattle.std.proofs.Common.{◌≡◌, true, List, [], ◌∷◌, ◌++◌, So
 use Rattle.td_tree.specs.declared.keyword.Keyword.TheVariants as k
 use Rattle.td_tree.specs.declared.operator.Style.TheVariants as styles
 use Rattle.td_tree.specs.declared.token.Sign.TheVariants as signs
-use Rattle.td_tree.specs.Grammar.{NameSpelling, name_item, NamesSpelling, AttributeListSpelling, only_names, all_but_names, RenamingSpelling, renaming, PostfixSpelling, projection, renamings, renamings_in_braces, grouping, wrapping, open_grouping, open_wrapping, ungrouping, unwrapping}
-use Rattle.td_tree.specs.Grammar as grammar
-use Rattle.td_tree.specs.Lexemes.{Lexeme, keyword, sign}
-use Rattle.td_tree.specs.Lexemes as lexeme
-use Rattle.td_tree.specs.Lists.{Listed, no_items, some_items, Separated, with_braces, with_parentheses}
-use Rattle.td_parse.specs.Reading.{styled_renamings, named_attributes, styled_attributes, postfix_of_word, read_postfix}
-use Rattle.td_parse.specs.ReadingOperators.{postfix_at}
-use Rattle.td_parse.specs.ReadingSteps.{expect, read_name, read_as, names_to_brace, names, all_but, attribute_list, read_renaming}
-use Rattle.td_tree.specs.Trees as tree
-use Rattle.td_tree.specs.Trees.{Text, Attributes, Renaming, Postfix}
+use Rattle.td_tree.specs.model.Grammar.{NameSpelling, name_item, NamesSpelling, AttributeListSpelling, only_names, all_but_names, RenamingSpelling, renaming, PostfixSpelling, projection, renamings, renamings_in_braces, grouping, wrapping, open_grouping, open_wrapping, ungrouping, unwrapping}
+use Rattle.td_tree.specs.model.Grammar as grammar
+use Rattle.td_tree.specs.model.Lexemes.{Lexeme, keyword, sign}
+use Rattle.td_tree.specs.model.Lexemes as lexeme
+use Rattle.td_tree.specs.model.Lists.{Listed, no_items, some_items, Separated, with_braces, with_parentheses}
+use Rattle.td_parse.specs.code.Reading.{styled_renamings, named_attributes, styled_attributes, postfix_of_word, read_postfix}
+use Rattle.td_parse.specs.code.ReadingOperators.{postfix_at}
+use Rattle.td_parse.specs.code.ReadingSteps.{expect, read_name, read_as, names_to_brace, names, all_but, attribute_list, read_renaming}
+use Rattle.td_tree.specs.model.Trees as tree
+use Rattle.td_tree.specs.model.Trees.{Text, Attributes, Renaming, Postfix}
 use Rattle.td_parse.proofs.AgainLists.{ItemAgain, SeparatedAgain, items_again, items_begin, closed_again, listed_again, empty_again, up_to_again, enclosed_again, enclosed_items_again, brace_closes, parenthesis_closes}
 
 -- whatever follows

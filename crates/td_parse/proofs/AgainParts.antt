@@ -4,15 +4,15 @@ use Rattle.td_tree.specs.declared.keyword.Keyword.TheVariants as k
 use Rattle.td_tree.specs.declared.operator.Aggregate.{Aggregate}
 use Rattle.td_tree.specs.declared.operator.Aggregate.TheVariants as aggregates
 use Rattle.td_tree.specs.declared.token.Sign.TheVariants as signs
-use Rattle.td_tree.specs.Grammar.{aggregate_word, loosest}
-use Rattle.td_tree.specs.Heights.{height, highest, highest_named, highest_summary}
-use Rattle.td_tree.specs.Lexemes.{Lexeme, keyword, sign}
-use Rattle.td_tree.specs.Lexemes as lexeme
-use Rattle.td_tree.specs.Lists.{with_parentheses}
-use Rattle.td_parse.specs.Reading.{trees_from, named_from, SummaryItem, count_item, sum_item, summaries_from, part, addition, setting, count_summary, sum_summary, summary_of_word, summary, read}
-use Rattle.td_parse.specs.ReadingSteps.{expect, read_name, read_as}
-use Rattle.td_tree.specs.Trees as tree
-use Rattle.td_tree.specs.Trees.{Text, Tree, Trees, NamedTrees, Summaries}
+use Rattle.td_tree.specs.model.Grammar.{aggregate_word, loosest}
+use Rattle.td_tree.specs.model.Heights.{height, highest, highest_named, highest_summary}
+use Rattle.td_tree.specs.model.Lexemes.{Lexeme, keyword, sign}
+use Rattle.td_tree.specs.model.Lexemes as lexeme
+use Rattle.td_tree.specs.model.Lists.{with_parentheses}
+use Rattle.td_parse.specs.code.Reading.{trees_from, named_from, SummaryItem, count_item, sum_item, summaries_from, part, addition, setting, count_summary, sum_summary, summary_of_word, summary, read}
+use Rattle.td_parse.specs.code.ReadingSteps.{expect, read_name, read_as}
+use Rattle.td_tree.specs.model.Trees as tree
+use Rattle.td_tree.specs.model.Trees.{Text, Tree, Trees, NamedTrees, Summaries}
 use Rattle.td_parse.proofs.Again.{Again}
 use Rattle.td_parse.proofs.AgainLists.{comma, ItemAgain, SeparatedAgain, last_again, next_again, enclosed_again}
 use Rattle.td_parse.proofs.AgainNames.{Anything}

@@ -8,18 +8,18 @@ use Rattle.td_tree.specs.declared.operator.Level.TheVariants as levels
 use Rattle.td_tree.specs.declared.operator.Measure.{Measure}
 use Rattle.td_tree.specs.declared.operator.Measure.TheVariants as measures
 use Rattle.td_tree.specs.declared.token.Sign.TheVariants as signs
-use Rattle.td_tree.specs.Grammar.{measure_word, aggregate_word, AttributeListSpelling, LiteralSpelling, number_literal, minus_literal, text_literal, true_literal, false_literal, dee_literal, dum_literal, ExpressionsSpelling, HeadingSpelling, PartsSpelling, last_part, next_part, loosest}
-use Rattle.td_tree.specs.Heights.{height, highest, highest_named, highest_summary, type_height}
-use Rattle.td_tree.specs.Lexemes.{Lexeme, keyword, sign}
-use Rattle.td_tree.specs.Lexemes as lexeme
-use Rattle.td_tree.specs.Lists.{with_braces, with_parentheses}
-use Rattle.td_tree.specs.Numbers.{numeral_limit}
-use Rattle.td_parse.specs.Reading.{numeral, negative, part, addition, setting, summary, summaries, name_expression, component_of, measure_expression, aggregate_expression, headed_relation, elements, relation, tuple, extension_adding, extension_setting, extension, summary_per, summary_by, summarize_expression, choice, primary_of_word, primary_of_sign, primary, binding_expression, binding, by_level, read}
-use Rattle.td_parse.specs.Reading as reading
-use Rattle.td_parse.specs.ReadingOperators.{call_at}
-use Rattle.td_parse.specs.ReadingSteps.{expect, read_up_to, in_parentheses_read, listed_to}
-use Rattle.td_tree.specs.Trees as tree
-use Rattle.td_tree.specs.Trees.{Text, AttributeTrees, Attributes, Literal, Tree, Trees, NamedTrees, Summaries}
+use Rattle.td_tree.specs.model.Grammar.{measure_word, aggregate_word, AttributeListSpelling, LiteralSpelling, number_literal, minus_literal, text_literal, true_literal, false_literal, dee_literal, dum_literal, ExpressionsSpelling, HeadingSpelling, PartsSpelling, last_part, next_part, loosest}
+use Rattle.td_tree.specs.model.Heights.{height, highest, highest_named, highest_summary, type_height}
+use Rattle.td_tree.specs.model.Lexemes.{Lexeme, keyword, sign}
+use Rattle.td_tree.specs.model.Lexemes as lexeme
+use Rattle.td_tree.specs.model.Lists.{with_braces, with_parentheses}
+use Rattle.td_tree.specs.model.Numbers.{numeral_limit}
+use Rattle.td_parse.specs.code.Reading.{numeral, negative, part, addition, setting, summary, summaries, name_expression, component_of, measure_expression, aggregate_expression, headed_relation, elements, relation, tuple, extension_adding, extension_setting, extension, summary_per, summary_by, summarize_expression, choice, primary_of_word, primary_of_sign, primary, binding_expression, binding, by_level, read}
+use Rattle.td_parse.specs.code.Reading as reading
+use Rattle.td_parse.specs.code.ReadingOperators.{call_at}
+use Rattle.td_parse.specs.code.ReadingSteps.{expect, read_up_to, in_parentheses_read, listed_to}
+use Rattle.td_tree.specs.model.Trees as tree
+use Rattle.td_tree.specs.model.Trees.{Text, AttributeTrees, Attributes, Literal, Tree, Trees, NamedTrees, Summaries}
 use Rattle.td_parse.proofs.Again.{Again, Reads}
 use Rattle.td_parse.proofs.AgainLists.{comma, closed_again, listed_again, empty_again, up_to_again, enclosed_again, enclosed_items_again, braced_items_again, brace_closes, parenthesis_closes}
 use Rattle.td_parse.proofs.AgainNames.{Anything, attributes_again}

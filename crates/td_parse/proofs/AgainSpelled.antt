@@ -3,12 +3,12 @@ use Rattle.std.proofs.Common.{List, ◌∷◌, ◌++◌}
 use Rattle.td_tree.specs.declared.keyword.Keyword.TheVariants as k
 use Rattle.td_tree.specs.declared.operator.Level.{Level}
 use Rattle.td_tree.specs.declared.operator.Level.TheVariants as levels
-use Rattle.td_tree.specs.Grammar.{HeadingSpelling, Spelling, looser, binding, restriction, between, negation, comparison, minus, closure, tuple_from, extraction, behind, literal, reference, selector, component, parentheses, measure, aggregate, headed_relation, relation, empty_tuple, tuple, extension, setting_extension, summary_per, summary_by, choice, ListSpelling, no_expressions, some_expressions, ExpressionsSpelling, last_expression, next_expression, PartsSpelling, last_part, next_part, AdditionsSpelling, last_addition, next_addition, SettingsSpelling, last_setting, next_setting, SummariesSpelling, last_count, next_count, last_sum, next_sum, loosest}
-use Rattle.td_tree.specs.Lexemes.{Lexeme, keyword}
-use Rattle.td_tree.specs.Lexemes as lexeme
-use Rattle.td_tree.specs.Lists.{with_braces, with_parentheses}
-use Rattle.td_tree.specs.Trees as tree
-use Rattle.td_tree.specs.Trees.{Text, AttributeTrees, Tree, Trees, NamedTrees, Summaries}
+use Rattle.td_tree.specs.model.Grammar.{HeadingSpelling, Spelling, looser, binding, restriction, between, negation, comparison, minus, closure, tuple_from, extraction, behind, literal, reference, selector, component, parentheses, measure, aggregate, headed_relation, relation, empty_tuple, tuple, extension, setting_extension, summary_per, summary_by, choice, ListSpelling, no_expressions, some_expressions, ExpressionsSpelling, last_expression, next_expression, PartsSpelling, last_part, next_part, AdditionsSpelling, last_addition, next_addition, SettingsSpelling, last_setting, next_setting, SummariesSpelling, last_count, next_count, last_sum, next_sum, loosest}
+use Rattle.td_tree.specs.model.Lexemes.{Lexeme, keyword}
+use Rattle.td_tree.specs.model.Lexemes as lexeme
+use Rattle.td_tree.specs.model.Lists.{with_braces, with_parentheses}
+use Rattle.td_tree.specs.model.Trees as tree
+use Rattle.td_tree.specs.model.Trees.{Text, AttributeTrees, Tree, Trees, NamedTrees, Summaries}
 use Rattle.td_parse.specs.declared.operators.Link.TheVariants as links
 use Rattle.td_parse.proofs.Again.{Again, Reads, again_from, alone, link_reads, comparison_reads, negation_reads, minus_reads, closure_reads, tuple_from_reads, extraction_reads, behind_reads}
 use Rattle.td_parse.proofs.AgainParts.{ListAgain, PartsAgain, AdditionsAgain, SettingsAgain, SummariesAgain, last_expression_reads, next_expression_reads, last_part_reads, next_part_reads, last_addition_reads, next_addition_reads, last_setting_reads, next_setting_reads, last_count_reads, next_count_reads, last_sum_reads, next_sum_reads}

@@ -7,19 +7,19 @@ use Rattle.td_tree.specs.declared.operator.Level.{Level}
 use Rattle.td_tree.specs.declared.operator.Level.TheVariants as levels
 use Rattle.td_tree.specs.declared.operator.Style.TheVariants as styles
 use Rattle.td_tree.specs.declared.token.Sign.TheVariants as signs
-use Rattle.td_tree.specs.Grammar.{AttributesSpelling, HeadingSpelling, SettingsSpelling, last_setting, next_setting, IsExpression, height_limit, loosest}
-use Rattle.td_tree.specs.Heights.{type_height, attributes_height}
-use Rattle.td_tree.specs.Lexemes.{Lexeme, keyword, sign}
-use Rattle.td_tree.specs.Lexemes as lexeme
-use Rattle.td_tree.specs.Lists.{Separated, one_item, next_item, Repeated, no_more, one_more, Optional, absent, present, with_braces, with_parentheses}
-use Rattle.td_parse.specs.Reading.{read, setting}
-use Rattle.td_parse.specs.ReadingOperators.{link_at, comparison_at, postfix_at, call_at}
-use Rattle.td_parse.specs.ReadingSteps.{expect, read_name, read_up_to, in_parentheses_read, optional, repeated_from, list_by_words, names}
-use Rattle.td_parse.specs.ReadingStatements as reading
-use Rattle.td_parse.specs.ReadingTypes.{attribute, read_type}
-use Rattle.td_tree.specs.StatementGrammar.{ExpressionItem, ConstraintPart, constraint_part, InitPart, init_part, WherePart, where_part, KeyPart, key_part, SettingItems, AssignmentSpelling, assignment, insertion, disjoint_insertion, deletion, included_deletion, changing, changing_in_braces, BaseWord, base_word, real_word, BodySpelling, no_body, type_definition, type_drop, var_drop, constraint_drop, base_definition, virtual_definition, constraint_definition, assignments, begin_transaction, commit, rollback, writing, dump, StatementSpelling, statement}
-use Rattle.td_tree.specs.Trees as tree
-use Rattle.td_tree.specs.Trees.{Text, AttributeTrees, Tree, NamedTrees, Assignment, Statement}
+use Rattle.td_tree.specs.model.Grammar.{AttributesSpelling, HeadingSpelling, SettingsSpelling, last_setting, next_setting, IsExpression, height_limit, loosest}
+use Rattle.td_tree.specs.model.Heights.{type_height, attributes_height}
+use Rattle.td_tree.specs.model.Lexemes.{Lexeme, keyword, sign}
+use Rattle.td_tree.specs.model.Lexemes as lexeme
+use Rattle.td_tree.specs.model.Lists.{Separated, one_item, next_item, Repeated, no_more, one_more, Optional, absent, present, with_braces, with_parentheses}
+use Rattle.td_parse.specs.code.Reading.{read, setting}
+use Rattle.td_parse.specs.code.ReadingOperators.{link_at, comparison_at, postfix_at, call_at}
+use Rattle.td_parse.specs.code.ReadingSteps.{expect, read_name, read_up_to, in_parentheses_read, optional, repeated_from, list_by_words, names}
+use Rattle.td_parse.specs.code.ReadingStatements as reading
+use Rattle.td_parse.specs.code.ReadingTypes.{attribute, read_type}
+use Rattle.td_tree.specs.model.StatementGrammar.{ExpressionItem, ConstraintPart, constraint_part, InitPart, init_part, WherePart, where_part, KeyPart, key_part, SettingItems, AssignmentSpelling, assignment, insertion, disjoint_insertion, deletion, included_deletion, changing, changing_in_braces, BaseWord, base_word, real_word, BodySpelling, no_body, type_definition, type_drop, var_drop, constraint_drop, base_definition, virtual_definition, constraint_definition, assignments, begin_transaction, commit, rollback, writing, dump, StatementSpelling, statement}
+use Rattle.td_tree.specs.model.Trees as tree
+use Rattle.td_tree.specs.model.Trees.{Text, AttributeTrees, Tree, NamedTrees, Assignment, Statement}
 use Rattle.td_parse.proofs.Again.{again_from}
 use Rattle.td_parse.proofs.AgainLists.{comma, ItemAgain, SeparatedAgain, items_again, separated_again, enclosed_again, enclosed_items_again, braced_items_again}
 use Rattle.td_parse.proofs.AgainNames.{Anything, names_again}

@@ -7,13 +7,13 @@ use Rattle.td_tree.specs.declared.operator.Level.{Level}
 use Rattle.td_tree.specs.declared.operator.Operator.{Operator}
 use Rattle.td_tree.specs.declared.operator.Operator.TheVariants as operators
 use Rattle.td_tree.specs.declared.token.Sign.TheVariants as signs
-use Rattle.td_tree.specs.Grammar.{operator_words, comparison_word, Spelling, looser, binding, restriction, between, negation, comparison, minus, closure, tuple_from, extraction, behind, literal, reference, selector, component, parentheses, measure, aggregate, headed_relation, relation, empty_tuple, tuple, extension, setting_extension, summary_per, summary_by, choice, LiteralSpelling, number_literal, minus_literal, text_literal, true_literal, false_literal, dee_literal, dum_literal, PostfixSpelling, projection, renamings, renamings_in_braces, grouping, wrapping, open_grouping, open_wrapping, ungrouping, unwrapping, AttributeListSpelling, only_names, all_but_names, ExpressionsSpelling, last_expression, next_expression, HeadingSpelling, empty_heading, AttributesSpelling, last_attribute, next_attribute, TypeSpelling, integer_type, char_type, boolean_type, user_type, relation_type, tuple_type}
-use Rattle.td_tree.specs.Grammar as grammar
-use Rattle.td_tree.specs.Lexemes.{Lexeme, keyword, sign}
-use Rattle.td_tree.specs.Lexemes as lexeme
-use Rattle.td_parse.specs.ReadingOperators.{name_and, is_assign, begins_type, call_at, heading_at}
-use Rattle.td_parse.specs.ReadingSteps.{expect}
-use Rattle.td_tree.specs.Trees.{Text, TypeTree, AttributeTrees, Attributes, Literal, Postfix, Tree, Trees}
+use Rattle.td_tree.specs.model.Grammar.{operator_words, comparison_word, Spelling, looser, binding, restriction, between, negation, comparison, minus, closure, tuple_from, extraction, behind, literal, reference, selector, component, parentheses, measure, aggregate, headed_relation, relation, empty_tuple, tuple, extension, setting_extension, summary_per, summary_by, choice, LiteralSpelling, number_literal, minus_literal, text_literal, true_literal, false_literal, dee_literal, dum_literal, PostfixSpelling, projection, renamings, renamings_in_braces, grouping, wrapping, open_grouping, open_wrapping, ungrouping, unwrapping, AttributeListSpelling, only_names, all_but_names, ExpressionsSpelling, last_expression, next_expression, HeadingSpelling, empty_heading, AttributesSpelling, last_attribute, next_attribute, TypeSpelling, integer_type, char_type, boolean_type, user_type, relation_type, tuple_type}
+use Rattle.td_tree.specs.model.Grammar as grammar
+use Rattle.td_tree.specs.model.Lexemes.{Lexeme, keyword, sign}
+use Rattle.td_tree.specs.model.Lexemes as lexeme
+use Rattle.td_parse.specs.code.ReadingOperators.{name_and, is_assign, begins_type, call_at, heading_at}
+use Rattle.td_parse.specs.code.ReadingSteps.{expect}
+use Rattle.td_tree.specs.model.Trees.{Text, TypeTree, AttributeTrees, Attributes, Literal, Postfix, Tree, Trees}
 use Rattle.td_parse.proofs.AgainLists.{comma}
 use Rattle.td_parse.proofs.Begins.{begins_no, expressions_begin}
 

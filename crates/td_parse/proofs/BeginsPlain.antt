@@ -10,13 +10,13 @@ use Rattle.td_tree.specs.declared.operator.Measure.TheVariants as measures
 use Rattle.td_tree.specs.declared.operator.Operator.{Operator}
 use Rattle.td_tree.specs.declared.operator.Operator.TheVariants as operators
 use Rattle.td_tree.specs.declared.token.Sign.TheVariants as signs
-use Rattle.td_tree.specs.Grammar.{tighter, level_of, measure_word, aggregate_word, Spelling, looser, binding, restriction, between, negation, comparison, minus, closure, tuple_from, extraction, behind, literal, reference, selector, component, parentheses, measure, aggregate, headed_relation, relation, empty_tuple, tuple, extension, setting_extension, summary_per, summary_by, choice, LiteralSpelling, number_literal, minus_literal, text_literal, true_literal, false_literal, dee_literal, dum_literal, PostfixSpelling, projection, renamings, renamings_in_braces, grouping, wrapping, open_grouping, open_wrapping, ungrouping, unwrapping, AttributeListSpelling, only_names, all_but_names}
-use Rattle.td_tree.specs.Grammar as grammar
-use Rattle.td_tree.specs.Lexemes.{Lexeme, keyword, sign}
-use Rattle.td_tree.specs.Lexemes as lexeme
-use Rattle.td_parse.specs.ReadingOperators.{prefix_at, extraction_at}
-use Rattle.td_parse.specs.ReadingSteps.{expect}
-use Rattle.td_tree.specs.Trees.{Attributes, Literal, Postfix, Tree}
+use Rattle.td_tree.specs.model.Grammar.{tighter, level_of, measure_word, aggregate_word, Spelling, looser, binding, restriction, between, negation, comparison, minus, closure, tuple_from, extraction, behind, literal, reference, selector, component, parentheses, measure, aggregate, headed_relation, relation, empty_tuple, tuple, extension, setting_extension, summary_per, summary_by, choice, LiteralSpelling, number_literal, minus_literal, text_literal, true_literal, false_literal, dee_literal, dum_literal, PostfixSpelling, projection, renamings, renamings_in_braces, grouping, wrapping, open_grouping, open_wrapping, ungrouping, unwrapping, AttributeListSpelling, only_names, all_but_names}
+use Rattle.td_tree.specs.model.Grammar as grammar
+use Rattle.td_tree.specs.model.Lexemes.{Lexeme, keyword, sign}
+use Rattle.td_tree.specs.model.Lexemes as lexeme
+use Rattle.td_parse.specs.code.ReadingOperators.{prefix_at, extraction_at}
+use Rattle.td_parse.specs.code.ReadingSteps.{expect}
+use Rattle.td_tree.specs.model.Trees.{Attributes, Literal, Postfix, Tree}
 
 abbrev pub from : Lexeme
 from = keyword k.From

@@ -4,7 +4,7 @@ use Rattle.std.specs.Prelude.{fold}
 use Rattle.std.proofs.Math.Seq.{drop-cons}
 use Rattle.std.proofs.lemmas.Bool.{cases_lt}
 use Rattle.std.proofs.Common.{inl, inr}
-use Rattle.td_tree.specs.Numbers.{numeral_limit}
+use Rattle.td_tree.specs.model.Numbers.{numeral_limit}
 
 abbrev pub step : ℕ → ℕ → ℕ
 step n digit = n * 10 + (digit - 48)

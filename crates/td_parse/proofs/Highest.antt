@@ -5,7 +5,7 @@ use Rattle.td_tree.specs.declared.expression.Expr.{Expr}
 use Rattle.td_tree.specs.declared.expression.NamedExpr.{NamedExpr}
 use Rattle.td_tree.specs.declared.expression.Summary.{Summary}
 use Rattle.td_tree.specs.declared.expression.Summary.TheVariants as s
-use Rattle.td_tree.specs.Heights.{height, highest, highest_named, highest_summary}
+use Rattle.td_tree.specs.model.Heights.{height, highest, highest_named, highest_summary}
 use Rattle.td_tree.specs.code.TreeViews.{named_view, summaries_view, tree_view, trees_view}
 
 pub highest_push : (all : List Expr) (a : Expr) → highest (trees_view (all ++ (a ∷ []))) ≡ max (highest (trees_view all)) (height (tree_view a))

@@ -15,6 +15,7 @@ pub mod Highest
 pub mod LoneLiterals
 pub mod LoneTuples
 pub mod LoopTurns
+pub mod NextTokens
 pub mod OneTree
 pub mod Parsed
 pub mod ReadingLaws

@@ -6,15 +6,15 @@ use Rattle.td_tree.specs.declared.keyword.Keyword.{Keyword}
 use Rattle.td_tree.specs.declared.keyword.Keyword.TheVariants as k
 use Rattle.td_tree.specs.declared.operator.Level.{Level}
 use Rattle.td_tree.specs.declared.operator.Level.TheVariants as levels
-use Rattle.td_tree.specs.Grammar.{Spelling, looser, LiteralSpelling, text_literal, true_literal, false_literal}
-use Rattle.td_tree.specs.Grammar as grammar
-use Rattle.td_tree.specs.Lexemes.{Lexeme, keyword, sign}
-use Rattle.td_tree.specs.Lexemes as lexeme
-use Rattle.td_tree.specs.Numbers.{numeral_limit}
-use Rattle.td_tree.specs.Trees as tree
-use Rattle.td_tree.specs.Trees.{Literal, Tree}
-use Rattle.td_parse.specs.Reading.{read}
-use Rattle.td_parse.specs.ReadingOperators.{with_rest}
+use Rattle.td_tree.specs.model.Grammar.{Spelling, looser, LiteralSpelling, text_literal, true_literal, false_literal}
+use Rattle.td_tree.specs.model.Grammar as grammar
+use Rattle.td_tree.specs.model.Lexemes.{Lexeme, keyword, sign}
+use Rattle.td_tree.specs.model.Lexemes as lexeme
+use Rattle.td_tree.specs.model.Numbers.{numeral_limit}
+use Rattle.td_tree.specs.model.Trees as tree
+use Rattle.td_tree.specs.model.Trees.{Literal, Tree}
+use Rattle.td_parse.specs.code.Reading.{read}
+use Rattle.td_parse.specs.code.ReadingOperators.{with_rest}
 use Rattle.td_parse.specs.code.Lone.{end_at, literal_of, lone_literal}
 use Rattle.td_parse.proofs.Again.{Again, again_from}
 use Rattle.td_parse.proofs.AgainSpelled.{reads}

@@ -4,11 +4,11 @@ use Rattle.td_tree.specs.declared.keyword.Keyword.TheVariants as k
 use Rattle.td_tree.specs.declared.operator.Level.{Level}
 use Rattle.td_tree.specs.declared.operator.Level.TheVariants as levels
 use Rattle.td_tree.specs.declared.token.Sign.TheVariants as signs
-use Rattle.td_tree.specs.Lexemes.{Lexeme, keyword, sign}
-use Rattle.td_tree.specs.Trees.{Tree}
-use Rattle.td_parse.specs.Reading.{Read, binding, postfix_expression, postfixes, unary_expression}
-use Rattle.td_parse.specs.ReadingOperators.{extraction_at, postfix_at, prefix_at}
-use Rattle.td_parse.specs.ReadingSteps.{expect}
+use Rattle.td_tree.specs.model.Lexemes.{Lexeme, keyword, sign}
+use Rattle.td_tree.specs.model.Trees.{Tree}
+use Rattle.td_parse.specs.code.Reading.{Read, binding, postfix_expression, postfixes, unary_expression}
+use Rattle.td_parse.specs.code.ReadingOperators.{extraction_at, postfix_at, prefix_at}
+use Rattle.td_parse.specs.code.ReadingSteps.{expect}
 use Rattle.td_parse.specs.code.Lone.{end_at, tuple_at}
 use Rattle.td_parse.specs.code.Walking.{any_infix, infix_expression, not_at, walk, walk_from}
 use Rattle.td_parse.proofs.Walks.{no_infix, restriction_walked, walk_ends}

@@ -6,18 +6,18 @@ use Rattle.td_tree.specs.declared.expression.Postfix.{Postfix}
 use Rattle.td_tree.specs.declared.fault.Fault.{Fault}
 use Rattle.td_tree.specs.declared.fault.Fault.TheVariants as faults
 use Rattle.td_tree.specs.declared.operator.Level.{Level}
-use Rattle.td_tree.specs.Grammar.{tighter}
-use Rattle.td_tree.specs.Heights.{height}
-use Rattle.td_tree.specs.Lexemes.{Lexeme}
-use Rattle.td_tree.specs.Outcomes.{Valued}
-use Rattle.td_tree.specs.Trees as tree
-use Rattle.td_tree.specs.Trees.{Tree}
+use Rattle.td_tree.specs.model.Grammar.{tighter}
+use Rattle.td_tree.specs.model.Heights.{height}
+use Rattle.td_tree.specs.model.Lexemes.{Lexeme}
+use Rattle.td_tree.specs.model.Outcomes.{Valued}
+use Rattle.td_tree.specs.model.Trees as tree
+use Rattle.td_tree.specs.model.Trees.{Tree}
 use Rattle.td_tree.specs.code.TreeViews.{postfix_view, tree_view}
 use Rattle.td_parse.specs.declared.operators.Infix.{Infix}
 use Rattle.td_parse.specs.code.Parsing.{Fits, Moves}
-use Rattle.td_parse.specs.Reading.{Read, postfixes, read_postfix}
-use Rattle.td_parse.specs.ReadingOperators.{postfix_at}
-use Rattle.td_parse.specs.ReadingSteps.{ReadOf}
+use Rattle.td_parse.specs.code.Reading.{Read, postfixes, read_postfix}
+use Rattle.td_parse.specs.code.ReadingOperators.{postfix_at}
+use Rattle.td_parse.specs.code.ReadingSteps.{ReadOf}
 use Rattle.td_parse.specs.code.Walking.{infix_at, infix_level, infix_tree, tightest_after, tightness, walk}
 use Rattle.td_parse.proofs.Separated.{read_is}
 use Rattle.td_parse.proofs.Turns.{one_more}

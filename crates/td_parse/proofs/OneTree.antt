@@ -2,14 +2,14 @@
 use Rattle.std.proofs.Common.{◌≡◌, ℕ, ◌+◌, ◌≤◌, List, [], Option, Some, sym, ap, ◌∙◌, arith}
 use Rattle.std.proofs.lemmas.List.{append-nil}
 use Rattle.td_tree.specs.declared.operator.Level.{Level}
-use Rattle.td_tree.specs.Grammar.{TypeSpelling, IsExpression, height_limit}
-use Rattle.td_tree.specs.Heights.{type_height}
-use Rattle.td_tree.specs.Lexemes.{Lexeme}
-use Rattle.td_parse.specs.Reading.{read}
-use Rattle.td_parse.specs.ReadingSteps.{ReadOf}
-use Rattle.td_parse.specs.ReadingTypes.{read_type}
-use Rattle.td_tree.specs.Trees.{TypeTree, Tree, Statement}
-use Rattle.td_tree.specs.StatementGrammar.{StatementSpelling}
+use Rattle.td_tree.specs.model.Grammar.{TypeSpelling, IsExpression, height_limit}
+use Rattle.td_tree.specs.model.Heights.{type_height}
+use Rattle.td_tree.specs.model.Lexemes.{Lexeme}
+use Rattle.td_parse.specs.code.Reading.{read}
+use Rattle.td_parse.specs.code.ReadingSteps.{ReadOf}
+use Rattle.td_parse.specs.code.ReadingTypes.{read_type}
+use Rattle.td_tree.specs.model.Trees.{TypeTree, Tree, Statement}
+use Rattle.td_tree.specs.model.StatementGrammar.{StatementSpelling}
 use Rattle.td_parse.proofs.Again.{again_from}
 use Rattle.td_parse.proofs.AgainSpelled.{reads}
 use Rattle.td_parse.proofs.AgainStatements.{statement_again}

@@ -4,14 +4,16 @@ use Rattle.td_tree.specs.declared.cause.Cause.TheVariants as causes
 use Rattle.td_tree.specs.declared.fault.Fault.{Fault}
 use Rattle.td_tree.specs.declared.fault.Fault.TheVariants as faults
 use Rattle.td_tree.specs.declared.statement.Statement.{Statement}
-use Rattle.td_tree.specs.Lexemes.{Lexeme}
-use Rattle.td_tree.specs.Outcomes.{Answers, Only, Outcome, Refused, Valued}
-use Rattle.td_tree.specs.Statements.{PlacedToken}
-use Rattle.td_tree.specs.TokenLexemes.{lexemes}
-use Rattle.td_tree.specs.Trees as trees
+use Rattle.td_tree.specs.model.Lexemes.{Lexeme}
+use Rattle.td_tree.specs.model.Outcomes.{Answers, Only, Outcome, Refused, Valued}
+use Rattle.td_tree.specs.model.Statements.{PlacedToken}
+use Rattle.td_tree.specs.model.TokenLexemes.{lexemes}
+use Rattle.td_tree.specs.model.Trees as trees
 use Rattle.td_tree.specs.code.TreeViews.{statement_view}
-use Rattle.td_parse.specs.code.Parsing.{Parsed, SpellsNone, SpellsOnly, TokensHaveOneMeaning, bad_token, has_bad, nothing_spelled, or_syntax, statement_spelled}
-use Rattle.td_parse.specs.ReadingStatements.{read_statement}
+use Rattle.td_parse.specs.model.Meanings.{Parsed, SpellsNone, SpellsOnly, bad_token, has_bad, nothing_spelled, statement_spelled}
+use Rattle.td_parse.specs.laws.MeaningLaws.{TokensHaveOneMeaning}
+use Rattle.td_parse.specs.code.Parsing.{or_syntax}
+use Rattle.td_parse.specs.code.ReadingStatements.{read_statement}
 use Rattle.td_parse.proofs.OneTree.{one_statement}
 use Rattle.td_parse.proofs.ReadingLaws.{reads_statements}
 

@@ -1,11 +1,11 @@
 -- Reading gives the tree of what is spelled, and of nothing else.
 use Rattle.std.proofs.Common.{◌≡◌, ◌≤◌, ◌↔◌, List, Some, refl}
-use Rattle.td_tree.specs.Grammar.{IsExpression, Spelling, height_limit, loosest}
-use Rattle.td_tree.specs.Heights.{height}
-use Rattle.td_tree.specs.Lexemes.{Lexeme}
-use Rattle.td_parse.specs.ReadingStatements.{read_statement, read_expression}
-use Rattle.td_tree.specs.StatementGrammar.{StatementSpelling}
-use Rattle.td_tree.specs.Trees.{Statement, Tree}
+use Rattle.td_tree.specs.model.Grammar.{IsExpression, Spelling, height_limit, loosest}
+use Rattle.td_tree.specs.model.Heights.{height}
+use Rattle.td_tree.specs.model.Lexemes.{Lexeme}
+use Rattle.td_parse.specs.code.ReadingStatements.{read_statement, read_expression}
+use Rattle.td_tree.specs.model.StatementGrammar.{StatementSpelling}
+use Rattle.td_tree.specs.model.Trees.{Statement, Tree}
 use Rattle.td_parse.proofs.AgainStatements.{statement_again}
 use Rattle.td_parse.proofs.OneTree.{expression_again}
 use Rattle.td_parse.proofs.SoundStatements.{statement_sound, whole_sound}

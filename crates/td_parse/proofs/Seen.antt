@@ -8,13 +8,13 @@ use lib.Pointwise.{pointwise}
 use Rattle.std.proofs.lemmas.Str.{IsUtf8-from_is_utf8}
 use Rattle.td_tree.specs.declared.token.Kind.{Kind}
 use Rattle.td_tree.specs.declared.token.Kind.TheVariants as kinds
-use Rattle.td_tree.specs.Lexemes.{Lexeme, name, component, number, text, bad}
-use Rattle.td_tree.specs.Names.{begins_the, is_name, is_word}
-use Rattle.td_tree.specs.Numbers.{decimal_value}
-use Rattle.td_tree.specs.Pieces.{kind_of}
-use Rattle.td_tree.specs.Symbols.{symbols}
-use Rattle.td_tree.specs.TextTokens.{IsQuotedText, content, with_quotes_doubled, text_in_quotes}
-use Rattle.td_tree.specs.TokenLexemes.{is_the_word, is_quoted_text, lexeme_of}
+use Rattle.td_tree.specs.model.Lexemes.{Lexeme, name, component, number, text, bad}
+use Rattle.td_tree.specs.model.Names.{begins_the, is_name, is_word}
+use Rattle.td_tree.specs.model.Numbers.{decimal_value}
+use Rattle.td_tree.specs.model.Pieces.{kind_of}
+use Rattle.td_tree.specs.model.Symbols.{symbols}
+use Rattle.td_tree.specs.model.TextTokens.{IsQuotedText, content, with_quotes_doubled, text_in_quotes}
+use Rattle.td_tree.specs.model.TokenLexemes.{is_the_word, is_quoted_text, lexeme_of}
 use Rattle.td_tree.proofs.law_lemmas.BadTokens.{bad_where_seen}
 use Rattle.td_tree.proofs.law_lemmas.CharacterLaws.{both}
 use Rattle.td_tree.proofs.law_lemmas.QuotedLaws.{are_quoted}

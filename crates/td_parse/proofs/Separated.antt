@@ -3,10 +3,10 @@ use Rattle.std.proofs.Common.{◌≡◌, ℕ, suc, ◌+◌, ◌-◌, ◌<◌, �
 use Rattle.std.proofs.lemmas.List.{map_push}
 use Rattle.td_tree.specs.declared.cause.Cause.TheVariants as causes
 use Rattle.td_tree.specs.declared.token.Sign.TheVariants as signs
-use Rattle.td_tree.specs.Lexemes.{Lexeme, sign}
-use Rattle.td_tree.specs.Outcomes.{Valued, named_cause}
+use Rattle.td_tree.specs.model.Lexemes.{Lexeme, sign}
+use Rattle.td_tree.specs.model.Outcomes.{Valued, named_cause}
 use Rattle.td_parse.specs.code.Parsing.{or_syntax}
-use Rattle.td_parse.specs.ReadingSteps.{ReadOf, expect, list_by_commas, separated_from}
+use Rattle.td_parse.specs.code.ReadingSteps.{ReadOf, expect, list_by_commas, separated_from}
 use Rattle.td_parse.proofs.Turns.{no_more, one_more}
 
 -- what was answered was read

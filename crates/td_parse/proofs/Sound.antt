@@ -10,15 +10,15 @@ use Rattle.td_parse.specs.declared.operators.Link.{Link}
 use Rattle.td_parse.specs.declared.operators.Link.TheVariants as links
 use Rattle.td_tree.specs.declared.operator.Prefix.{Prefix}
 use Rattle.td_tree.specs.declared.token.Sign.TheVariants as signs
-use Rattle.td_tree.specs.Grammar as grammar
-use Rattle.td_tree.specs.Grammar.{loosest, tighter, comparison_word, Spelling, looser, between, negation, comparison, minus, closure, tuple_from, extraction, behind}
-use Rattle.td_tree.specs.Heights.{height}
-use Rattle.td_tree.specs.Lexemes.{Lexeme, keyword, sign}
-use Rattle.td_parse.specs.Reading.{Read, read_postfix, primary, postfixes, postfix_expression, extract_expression, prefix_expression, unary_expression, operations, chain, multiplicative, additive, relational, compared_to, comparison_expression, negation_expression, conjunction, disjunction, restriction, setting, binding_expression, binding, by_level, read}
-use Rattle.td_parse.specs.ReadingOperators.{link_level, link_words, linked_tree, link_at, comparison_at, prefix_at, extraction_at, postfix_at}
-use Rattle.td_parse.specs.ReadingSteps.{◌>>=◌, expect, in_parentheses_read, list_by_commas}
-use Rattle.td_tree.specs.Trees as tree
-use Rattle.td_tree.specs.Trees.{Tree}
+use Rattle.td_tree.specs.model.Grammar as grammar
+use Rattle.td_tree.specs.model.Grammar.{loosest, tighter, comparison_word, Spelling, looser, between, negation, comparison, minus, closure, tuple_from, extraction, behind}
+use Rattle.td_tree.specs.model.Heights.{height}
+use Rattle.td_tree.specs.model.Lexemes.{Lexeme, keyword, sign}
+use Rattle.td_parse.specs.code.Reading.{Read, read_postfix, primary, postfixes, postfix_expression, extract_expression, prefix_expression, unary_expression, operations, chain, multiplicative, additive, relational, compared_to, comparison_expression, negation_expression, conjunction, disjunction, restriction, setting, binding_expression, binding, by_level, read}
+use Rattle.td_parse.specs.code.ReadingOperators.{link_level, link_words, linked_tree, link_at, comparison_at, prefix_at, extraction_at, postfix_at}
+use Rattle.td_parse.specs.code.ReadingSteps.{◌>>=◌, expect, in_parentheses_read, list_by_commas}
+use Rattle.td_tree.specs.model.Trees as tree
+use Rattle.td_tree.specs.model.Trees.{Tree}
 use Rattle.td_parse.proofs.SoundNames.{after_word, postfix_sound}
 use Rattle.td_parse.proofs.SoundOperators.{link_is, comparison_is, PrefixFront, minus_front, closure_front, tuple_front, prefix_is, otherwise, extraction_is}
 use Rattle.td_parse.proofs.SoundParts.{IsAt, Inside, are_settings, setting_sound}

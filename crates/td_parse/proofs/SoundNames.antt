@@ -5,15 +5,15 @@ use Rattle.td_tree.specs.declared.keyword.Keyword.TheVariants as k
 use Rattle.td_tree.specs.declared.operator.Style.{Style}
 use Rattle.td_tree.specs.declared.operator.Style.TheVariants as styles
 use Rattle.td_tree.specs.declared.token.Sign.TheVariants as signs
-use Rattle.td_tree.specs.Grammar.{NameSpelling, name_item, NamesSpelling, AttributeListSpelling, only_names, all_but_names, RenamingSpelling, renaming, PostfixSpelling, projection, renamings, renamings_in_braces, grouping, wrapping, open_grouping, open_wrapping, ungrouping, unwrapping}
-use Rattle.td_tree.specs.Grammar as grammar
-use Rattle.td_tree.specs.Lexemes.{Lexeme, keyword, sign}
-use Rattle.td_tree.specs.Lexemes as lexeme
-use Rattle.td_tree.specs.Lists.{Listed, Separated, with_braces, with_parentheses}
-use Rattle.td_parse.specs.Reading.{styled_renamings, named_attributes, styled_attributes, postfix_of_word, read_postfix}
-use Rattle.td_parse.specs.ReadingSteps.{expect, read_name, read_as, read_up_to, in_parentheses_read, list_by_commas, names_to_brace, names, all_but, attribute_list, read_renaming}
-use Rattle.td_tree.specs.Trees as tree
-use Rattle.td_tree.specs.Trees.{Text, Attributes, Renaming, Postfix}
+use Rattle.td_tree.specs.model.Grammar.{NameSpelling, name_item, NamesSpelling, AttributeListSpelling, only_names, all_but_names, RenamingSpelling, renaming, PostfixSpelling, projection, renamings, renamings_in_braces, grouping, wrapping, open_grouping, open_wrapping, ungrouping, unwrapping}
+use Rattle.td_tree.specs.model.Grammar as grammar
+use Rattle.td_tree.specs.model.Lexemes.{Lexeme, keyword, sign}
+use Rattle.td_tree.specs.model.Lexemes as lexeme
+use Rattle.td_tree.specs.model.Lists.{Listed, Separated, with_braces, with_parentheses}
+use Rattle.td_parse.specs.code.Reading.{styled_renamings, named_attributes, styled_attributes, postfix_of_word, read_postfix}
+use Rattle.td_parse.specs.code.ReadingSteps.{expect, read_name, read_as, read_up_to, in_parentheses_read, list_by_commas, names_to_brace, names, all_but, attribute_list, read_renaming}
+use Rattle.td_tree.specs.model.Trees as tree
+use Rattle.td_tree.specs.model.Trees.{Text, Attributes, Renaming, Postfix}
 use Rattle.td_parse.proofs.SoundSteps.{bind_some, either_cases, Front, glue, expect_front, Takes, Sound, retake, TakesTo, name_front, as_front, up_to_sound, enclosed_sound, separated_sound, listed_sound}
 
 name_sound : Sound NameSpelling read_name

@@ -14,12 +14,12 @@ use Rattle.td_tree.specs.declared.operator.Prefix.{Prefix}
 use Rattle.td_tree.specs.declared.operator.Prefix.TheVariants as prefixes
 use Rattle.td_tree.specs.declared.token.Sign.{Sign}
 use Rattle.td_tree.specs.declared.token.Sign.TheVariants as signs
-use Rattle.td_tree.specs.Grammar.{comparison_word, BeginsOtherwise}
-use Rattle.td_tree.specs.Lexemes.{Lexeme, keyword, sign}
-use Rattle.td_tree.specs.Lexemes as lexeme
-use Rattle.td_parse.specs.ReadingOperators.{link_level, link_words, with_rest, link_of_word, link_of_sign, link_after_word, any_link, same_level, link_at, comparison_of_word, comparison_of_sign, comparison_at, begins_with_number, prefix_after_sign, prefix_after_word, prefix_at, extraction_at, name_and, is_assign, call_at}
-use Rattle.td_parse.specs.ReadingSteps.{expect}
-use Rattle.td_tree.specs.Trees.{Text}
+use Rattle.td_tree.specs.model.Grammar.{comparison_word, BeginsOtherwise}
+use Rattle.td_tree.specs.model.Lexemes.{Lexeme, keyword, sign}
+use Rattle.td_tree.specs.model.Lexemes as lexeme
+use Rattle.td_parse.specs.code.ReadingOperators.{link_level, link_words, with_rest, link_of_word, link_of_sign, link_after_word, any_link, same_level, link_at, comparison_of_word, comparison_of_sign, comparison_at, begins_with_number, prefix_after_sign, prefix_after_word, prefix_at, extraction_at, name_and, is_assign, call_at}
+use Rattle.td_parse.specs.code.ReadingSteps.{expect}
+use Rattle.td_tree.specs.model.Trees.{Text}
 use Rattle.td_parse.proofs.BeginsPlain.{from}
 use Rattle.td_parse.proofs.SoundNames.{after_word}
 use Rattle.td_parse.proofs.SoundSteps.{some, bind_some, guard_some, pair_is, Front, expect_front}

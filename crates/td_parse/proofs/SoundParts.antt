@@ -6,15 +6,15 @@ use Rattle.td_tree.specs.declared.operator.Aggregate.{Aggregate}
 use Rattle.td_tree.specs.declared.operator.Aggregate.TheVariants as aggregates
 use Rattle.td_tree.specs.declared.operator.Level.{Level}
 use Rattle.td_tree.specs.declared.token.Sign.TheVariants as signs
-use Rattle.td_tree.specs.Grammar.{aggregate_word, Spelling, ListSpelling, no_expressions, some_expressions, ExpressionsSpelling, last_expression, next_expression, PartsSpelling, last_part, next_part, AdditionsSpelling, last_addition, next_addition, SettingsSpelling, last_setting, next_setting, SummariesSpelling, last_count, next_count, last_sum, next_sum, loosest}
-use Rattle.td_tree.specs.Heights.{height, highest, highest_named, highest_summary}
-use Rattle.td_tree.specs.Lexemes.{Lexeme, keyword, sign}
-use Rattle.td_tree.specs.Lexemes as lexeme
-use Rattle.td_tree.specs.Lists.{Listed, no_items, some_items, Separated, one_item, next_item, with_parentheses}
-use Rattle.td_parse.specs.Reading.{Read, trees_from, named_from, SummaryItem, count_item, sum_item, summaries_from, part, addition, setting, count_summary, sum_summary, summary_of_word, summary, summaries}
-use Rattle.td_parse.specs.ReadingSteps.{expect, read_name, read_as, in_parentheses_read, list_by_commas}
-use Rattle.td_tree.specs.Trees as tree
-use Rattle.td_tree.specs.Trees.{Text, Tree, Trees, NamedTrees, Summaries}
+use Rattle.td_tree.specs.model.Grammar.{aggregate_word, Spelling, ListSpelling, no_expressions, some_expressions, ExpressionsSpelling, last_expression, next_expression, PartsSpelling, last_part, next_part, AdditionsSpelling, last_addition, next_addition, SettingsSpelling, last_setting, next_setting, SummariesSpelling, last_count, next_count, last_sum, next_sum, loosest}
+use Rattle.td_tree.specs.model.Heights.{height, highest, highest_named, highest_summary}
+use Rattle.td_tree.specs.model.Lexemes.{Lexeme, keyword, sign}
+use Rattle.td_tree.specs.model.Lexemes as lexeme
+use Rattle.td_tree.specs.model.Lists.{Listed, no_items, some_items, Separated, one_item, next_item, with_parentheses}
+use Rattle.td_parse.specs.code.Reading.{Read, trees_from, named_from, SummaryItem, count_item, sum_item, summaries_from, part, addition, setting, count_summary, sum_summary, summary_of_word, summary, summaries}
+use Rattle.td_parse.specs.code.ReadingSteps.{expect, read_name, read_as, in_parentheses_read, list_by_commas}
+use Rattle.td_tree.specs.model.Trees as tree
+use Rattle.td_tree.specs.model.Trees.{Text, Tree, Trees, NamedTrees, Summaries}
 use Rattle.td_parse.proofs.AgainLists.{comma}
 use Rattle.td_parse.proofs.SoundNames.{after_word}
 use Rattle.td_parse.proofs.SoundSteps.{bind_some, glue, expect_front, Takes, Sound, retake, name_front, as_front, enclosed_sound, separated_sound}

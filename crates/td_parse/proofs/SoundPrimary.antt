@@ -11,19 +11,19 @@ use Rattle.td_tree.specs.declared.operator.Measure.{Measure}
 use Rattle.td_tree.specs.declared.operator.Measure.TheVariants as measures
 use Rattle.td_tree.specs.declared.token.Sign.{Sign}
 use Rattle.td_tree.specs.declared.token.Sign.TheVariants as signs
-use Rattle.td_tree.specs.Grammar.{measure_word, aggregate_word, AttributeListSpelling, LiteralSpelling, number_literal, minus_literal, text_literal, true_literal, false_literal, dee_literal, dum_literal, loosest}
-use Rattle.td_tree.specs.Grammar as grammar
-use Rattle.td_tree.specs.Lexemes.{Lexeme, keyword, sign}
-use Rattle.td_tree.specs.Lexemes as lexeme
-use Rattle.td_tree.specs.Lists.{Listed, no_items, some_items, with_braces, with_parentheses}
-use Rattle.td_tree.specs.Numbers.{numeral_limit}
-use Rattle.td_parse.specs.Reading.{Read, named_from, numeral, negative, part, addition, setting, summaries, name_expression, component_of, measure_expression, aggregate_expression, headed_relation, elements, relation, tuple, extension_adding, extension_setting, extension, summary_per, summary_by, summarize_expression, choice, primary_of_word, primary_of_sign, primary}
-use Rattle.td_parse.specs.Reading as reading
-use Rattle.td_parse.specs.ReadingOperators.{call_at, heading_at}
-use Rattle.td_parse.specs.ReadingSteps.{expect, read_up_to, in_parentheses_read, in_braces_read, list_by_commas, listed_to, attribute_list}
-use Rattle.td_parse.specs.ReadingTypes.{relation_heading}
-use Rattle.td_tree.specs.Trees as tree
-use Rattle.td_tree.specs.Trees.{Text, Attributes, Literal, Tree, Summaries}
+use Rattle.td_tree.specs.model.Grammar.{measure_word, aggregate_word, AttributeListSpelling, LiteralSpelling, number_literal, minus_literal, text_literal, true_literal, false_literal, dee_literal, dum_literal, loosest}
+use Rattle.td_tree.specs.model.Grammar as grammar
+use Rattle.td_tree.specs.model.Lexemes.{Lexeme, keyword, sign}
+use Rattle.td_tree.specs.model.Lexemes as lexeme
+use Rattle.td_tree.specs.model.Lists.{Listed, no_items, some_items, with_braces, with_parentheses}
+use Rattle.td_tree.specs.model.Numbers.{numeral_limit}
+use Rattle.td_parse.specs.code.Reading.{Read, named_from, numeral, negative, part, addition, setting, summaries, name_expression, component_of, measure_expression, aggregate_expression, headed_relation, elements, relation, tuple, extension_adding, extension_setting, extension, summary_per, summary_by, summarize_expression, choice, primary_of_word, primary_of_sign, primary}
+use Rattle.td_parse.specs.code.Reading as reading
+use Rattle.td_parse.specs.code.ReadingOperators.{call_at, heading_at}
+use Rattle.td_parse.specs.code.ReadingSteps.{expect, read_up_to, in_parentheses_read, in_braces_read, list_by_commas, listed_to, attribute_list}
+use Rattle.td_parse.specs.code.ReadingTypes.{relation_heading}
+use Rattle.td_tree.specs.model.Trees as tree
+use Rattle.td_tree.specs.model.Trees.{Text, Attributes, Literal, Tree, Summaries}
 use Rattle.td_parse.proofs.AgainLists.{comma}
 use Rattle.td_parse.proofs.SoundNames.{after_word, attributes_sound}
 use Rattle.td_parse.proofs.SoundOperators.{call_is}

@@ -8,17 +8,17 @@ use Rattle.td_tree.specs.declared.operator.Level.TheVariants as levels
 use Rattle.td_tree.specs.declared.operator.Style.{Style}
 use Rattle.td_tree.specs.declared.operator.Style.TheVariants as styles
 use Rattle.td_tree.specs.declared.token.Sign.TheVariants as signs
-use Rattle.td_tree.specs.Grammar.{IsExpression, height_limit, loosest}
-use Rattle.td_tree.specs.Lexemes.{Lexeme, keyword, sign}
-use Rattle.td_tree.specs.Lexemes as lexeme
-use Rattle.td_tree.specs.Lists.{Separated, Repeated, Optional, with_braces, with_parentheses}
-use Rattle.td_parse.specs.Reading.{named_from, read, setting}
-use Rattle.td_parse.specs.ReadingStatements as reading
-use Rattle.td_parse.specs.ReadingSteps.{expect, read_name, read_up_to, in_parentheses_read, in_braces_read, optional, list_by_commas, names}
-use Rattle.td_parse.specs.ReadingTypes.{attribute, read_type, relation_heading}
-use Rattle.td_tree.specs.StatementGrammar.{ExpressionItem, constraint_part, InitPart, init_part, WherePart, where_part, KeyPart, key_part, SettingItems, AssignmentSpelling, assignment, insertion, disjoint_insertion, deletion, included_deletion, changing, changing_in_braces, BaseWord, base_word, real_word, BodySpelling, no_body, type_definition, type_drop, var_drop, constraint_drop, base_definition, virtual_definition, constraint_definition, assignments, begin_transaction, commit, rollback, writing, dump, StatementSpelling, statement}
-use Rattle.td_tree.specs.Trees as tree
-use Rattle.td_tree.specs.Trees.{Text, Tree, Assignment, Statement}
+use Rattle.td_tree.specs.model.Grammar.{IsExpression, height_limit, loosest}
+use Rattle.td_tree.specs.model.Lexemes.{Lexeme, keyword, sign}
+use Rattle.td_tree.specs.model.Lexemes as lexeme
+use Rattle.td_tree.specs.model.Lists.{Separated, Repeated, Optional, with_braces, with_parentheses}
+use Rattle.td_parse.specs.code.Reading.{named_from, read, setting}
+use Rattle.td_parse.specs.code.ReadingStatements as reading
+use Rattle.td_parse.specs.code.ReadingSteps.{expect, read_name, read_up_to, in_parentheses_read, in_braces_read, optional, list_by_commas, names}
+use Rattle.td_parse.specs.code.ReadingTypes.{attribute, read_type, relation_heading}
+use Rattle.td_tree.specs.model.StatementGrammar.{ExpressionItem, constraint_part, InitPart, init_part, WherePart, where_part, KeyPart, key_part, SettingItems, AssignmentSpelling, assignment, insertion, disjoint_insertion, deletion, included_deletion, changing, changing_in_braces, BaseWord, base_word, real_word, BodySpelling, no_body, type_definition, type_drop, var_drop, constraint_drop, base_definition, virtual_definition, constraint_definition, assignments, begin_transaction, commit, rollback, writing, dump, StatementSpelling, statement}
+use Rattle.td_tree.specs.model.Trees as tree
+use Rattle.td_tree.specs.model.Trees.{Text, Tree, Assignment, Statement}
 use Rattle.td_parse.proofs.Sound.{sound}
 use Rattle.td_parse.proofs.SoundNames.{after_word, names_sound}
 use Rattle.td_parse.proofs.SoundParts.{IsSetting, are_settings, setting_sound}

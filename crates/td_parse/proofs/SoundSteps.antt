@@ -3,11 +3,11 @@ use Rattle.std.proofs.Common.{◌≡◌, ℕ, zero, suc, Bool, true, false, cond
 use Rattle.std.proofs.lemmas.List.{append-nil}
 use Rattle.td_tree.specs.declared.keyword.Keyword.TheVariants as k
 use Rattle.td_tree.specs.declared.token.Sign.TheVariants as signs
-use Rattle.td_tree.specs.Lexemes.{Lexeme, keyword, sign}
-use Rattle.td_tree.specs.Lexemes as lexeme
-use Rattle.td_tree.specs.Lists.{Separated, one_item, next_item, Listed, no_items, some_items, Repeated, no_more, one_more, Optional, absent, present, with_braces, with_parentheses}
-use Rattle.td_parse.specs.ReadingSteps.{◌>>=◌, either, ReadOf, same_lexeme, expect, read_name, read_as, read_up_to, in_parentheses_read, in_braces_read, optional, separated_from, list_by_commas, listed_to, repeated_from, list_by_words}
-use Rattle.td_tree.specs.Trees.{Text}
+use Rattle.td_tree.specs.model.Lexemes.{Lexeme, keyword, sign}
+use Rattle.td_tree.specs.model.Lexemes as lexeme
+use Rattle.td_tree.specs.model.Lists.{Separated, one_item, next_item, Listed, no_items, some_items, Repeated, no_more, one_more, Optional, absent, present, with_braces, with_parentheses}
+use Rattle.td_parse.specs.code.ReadingSteps.{◌>>=◌, either, ReadOf, same_lexeme, expect, read_name, read_as, read_up_to, in_parentheses_read, in_braces_read, optional, separated_from, list_by_commas, listed_to, repeated_from, list_by_words}
+use Rattle.td_tree.specs.model.Trees.{Text}
 use Rattle.td_parse.proofs.AgainLists.{comma}
 use Rattle.td_parse.proofs.Begins.{same_is}
 

@@ -3,16 +3,16 @@ use Rattle.std.proofs.Common.{◌≡◌, ℕ, zero, suc, ◌≤◌, List, [], �
 use Rattle.td_tree.specs.declared.keyword.Keyword.{Keyword}
 use Rattle.td_tree.specs.declared.keyword.Keyword.TheVariants as k
 use Rattle.td_tree.specs.declared.token.Sign.TheVariants as signs
-use Rattle.td_tree.specs.Grammar.{TypeSpelling, integer_type, char_type, boolean_type, user_type, relation_type, tuple_type, HeadingSpelling, empty_heading, AttributesSpelling, last_attribute, next_attribute}
-use Rattle.td_tree.specs.Grammar as grammar
-use Rattle.td_tree.specs.Heights.{type_height, attributes_height}
-use Rattle.td_tree.specs.Lexemes.{Lexeme, keyword, sign}
-use Rattle.td_tree.specs.Lexemes as lexeme
-use Rattle.td_tree.specs.Lists.{Listed, no_items, some_items, Separated, one_item, next_item, with_braces}
-use Rattle.td_parse.specs.ReadingSteps.{ReadOf, expect, read_name, listed_to}
-use Rattle.td_parse.specs.ReadingTypes.{attribute, attribute_trees_from, heading, type_of_word, type_of_first, read_type, relation_heading}
-use Rattle.td_tree.specs.Trees as tree
-use Rattle.td_tree.specs.Trees.{Text, TypeTree, AttributeTrees}
+use Rattle.td_tree.specs.model.Grammar.{TypeSpelling, integer_type, char_type, boolean_type, user_type, relation_type, tuple_type, HeadingSpelling, empty_heading, AttributesSpelling, last_attribute, next_attribute}
+use Rattle.td_tree.specs.model.Grammar as grammar
+use Rattle.td_tree.specs.model.Heights.{type_height, attributes_height}
+use Rattle.td_tree.specs.model.Lexemes.{Lexeme, keyword, sign}
+use Rattle.td_tree.specs.model.Lexemes as lexeme
+use Rattle.td_tree.specs.model.Lists.{Listed, no_items, some_items, Separated, one_item, next_item, with_braces}
+use Rattle.td_parse.specs.code.ReadingSteps.{ReadOf, expect, read_name, listed_to}
+use Rattle.td_parse.specs.code.ReadingTypes.{attribute, attribute_trees_from, heading, type_of_word, type_of_first, read_type, relation_heading}
+use Rattle.td_tree.specs.model.Trees as tree
+use Rattle.td_tree.specs.model.Trees.{Text, TypeTree, AttributeTrees}
 use Rattle.td_parse.proofs.SoundNames.{after_word}
 use Rattle.td_parse.proofs.SoundSteps.{some, bind_some, glue, expect_front, Takes, Sound, retake, name_front, listed_sound}
 

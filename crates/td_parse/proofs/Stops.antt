@@ -10,12 +10,12 @@ use Rattle.td_tree.specs.declared.operator.Operator.TheVariants as operators
 use Rattle.td_parse.specs.declared.operators.Link.TheVariants as links
 use Rattle.td_tree.specs.declared.token.Sign.{Sign}
 use Rattle.td_tree.specs.declared.token.Sign.TheVariants as signs
-use Rattle.td_tree.specs.Grammar.{tighter, comparison_word, PostfixSpelling, projection, renamings, renamings_in_braces, grouping, wrapping, open_grouping, open_wrapping, ungrouping, unwrapping, AttributeListSpelling, only_names, all_but_names, loosest}
-use Rattle.td_tree.specs.Grammar as grammar
-use Rattle.td_tree.specs.Lexemes.{Lexeme, keyword, sign}
-use Rattle.td_parse.specs.ReadingOperators.{link_level, link_words, any_link, link_at, comparison_at, postfix_at, call_at}
-use Rattle.td_parse.specs.ReadingSteps.{expect}
-use Rattle.td_tree.specs.Trees.{Attributes, Postfix}
+use Rattle.td_tree.specs.model.Grammar.{tighter, comparison_word, PostfixSpelling, projection, renamings, renamings_in_braces, grouping, wrapping, open_grouping, open_wrapping, ungrouping, unwrapping, AttributeListSpelling, only_names, all_but_names, loosest}
+use Rattle.td_tree.specs.model.Grammar as grammar
+use Rattle.td_tree.specs.model.Lexemes.{Lexeme, keyword, sign}
+use Rattle.td_parse.specs.code.ReadingOperators.{link_level, link_words, any_link, link_at, comparison_at, postfix_at, call_at}
+use Rattle.td_parse.specs.code.ReadingSteps.{expect}
+use Rattle.td_tree.specs.model.Trees.{Attributes, Postfix}
 use Rattle.td_parse.specs.code.Lone.{ends_expression}
 use Rattle.td_parse.proofs.BeginsPlain.{from}
 

@@ -1,13 +1,13 @@
 -- Lists of parts, as reading gives them and as trees hold them.
 use Rattle.std.proofs.Common.{◌≡◌, List, [], ◌∷◌, refl, ap, map}
-use Rattle.td_parse.specs.ReadingTypes.{attribute_trees_from}
+use Rattle.td_parse.specs.code.ReadingTypes.{attribute_trees_from}
 use Rattle.td_tree.specs.declared.expression.Expr.{Expr}
 use Rattle.td_tree.specs.declared.expression.NamedExpr.{NamedExpr}
 use Rattle.td_tree.specs.declared.expression.Summary.{Summary}
 use Rattle.td_tree.specs.declared.expression.Summary.TheVariants as s
 use Rattle.td_tree.specs.declared.type_tree.AttributeTree.{AttributeTree}
-use Rattle.td_parse.specs.Reading.{named_from, summaries_from, trees_from}
-use Rattle.td_tree.specs.Trees as tree
+use Rattle.td_parse.specs.code.Reading.{named_from, summaries_from, trees_from}
+use Rattle.td_tree.specs.model.Trees as tree
 use Rattle.td_tree.specs.code.TreeViews.{heading_tree_view, named_view, summaries_view, tree_view, trees_view, type_tree_view}
 use Rattle.td_parse.specs.code.Views.{attribute_trees_view, item_view, named_part_view}
 

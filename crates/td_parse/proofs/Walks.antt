@@ -16,15 +16,15 @@ use Rattle.td_parse.specs.declared.operators.Link.TheVariants as links
 use Rattle.td_tree.specs.declared.operator.Prefix.TheVariants as prefixes
 use Rattle.td_tree.specs.declared.token.Sign.{Sign}
 use Rattle.td_tree.specs.declared.token.Sign.TheVariants as signs
-use Rattle.td_tree.specs.Grammar.{tighter}
-use Rattle.td_tree.specs.Heights.{height}
-use Rattle.td_tree.specs.Lexemes.{Lexeme, keyword, sign}
-use Rattle.td_tree.specs.Trees.{Tree}
+use Rattle.td_tree.specs.model.Grammar.{tighter}
+use Rattle.td_tree.specs.model.Heights.{height}
+use Rattle.td_tree.specs.model.Lexemes.{Lexeme, keyword, sign}
+use Rattle.td_tree.specs.model.Trees.{Tree}
 use Rattle.td_parse.specs.declared.operators.Infix.{Infix}
 use Rattle.td_parse.specs.declared.operators.Infix.TheVariants as infixes
-use Rattle.td_parse.specs.Reading.{Read, additive, prefix_expression, by_level, chain, comparison_expression, compared_to, conjunction, disjunction, multiplicative, negation_expression, operations, unary_expression, relational, restriction}
-use Rattle.td_parse.specs.ReadingOperators.{link_level, any_link, comparison_at, comparison_of_sign, comparison_of_word, link_at, link_of_sign, link_of_word, same_level, with_rest}
-use Rattle.td_parse.specs.ReadingSteps.{◌>>=◌, either, ReadOf, expect}
+use Rattle.td_parse.specs.code.Reading.{Read, additive, prefix_expression, by_level, chain, comparison_expression, compared_to, conjunction, disjunction, multiplicative, negation_expression, operations, unary_expression, relational, restriction}
+use Rattle.td_parse.specs.code.ReadingOperators.{link_level, any_link, comparison_at, comparison_of_sign, comparison_of_word, link_at, link_of_sign, link_of_word, same_level, with_rest}
+use Rattle.td_parse.specs.code.ReadingSteps.{◌>>=◌, either, ReadOf, expect}
 use Rattle.td_parse.specs.code.Walking.{any_infix, infix_at, infix_level, is_between, infix_tree, not_at, tightest_after, tightness, walk, infix_expression}
 use Rattle.td_parse.proofs.Again.{height_pos}
 

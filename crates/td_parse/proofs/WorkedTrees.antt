@@ -9,24 +9,24 @@ use Rattle.td_tree.specs.declared.operator.Operator.TheVariants as operators
 use Rattle.td_tree.specs.declared.operator.Prefix.TheVariants as prefixes
 use Rattle.td_tree.specs.declared.operator.Style.TheVariants as styles
 use Rattle.td_tree.specs.declared.token.Sign.TheVariants as signs
-use Rattle.td_tree.specs.Grammar as grammar
-use Rattle.td_tree.specs.Grammar.{height_limit, Spelling, IsExpression, looser, binding, between, negation, minus, comparison, behind, literal, reference, component, setting_extension, last_setting, next_setting, renaming, renamings_in_braces, number_literal, minus_literal, loosest}
-use Rattle.td_tree.specs.Heights.{height}
-use Rattle.td_tree.specs.Keywords.{keyword_of}
-use Rattle.td_tree.specs.Lexemes.{Lexeme, keyword, sign}
-use Rattle.td_tree.specs.Lexemes as lexeme
-use Rattle.td_tree.specs.Lists.{one_item}
-use Rattle.td_tree.specs.Names.{is_name}
-use Rattle.td_tree.specs.Pieces.{sign_at, sign_goes_on, opens, goes_on, word_kind}
-use Rattle.td_tree.specs.Prints.{print}
-use Rattle.td_tree.specs.Statements.{tokens}
-use Rattle.td_tree.specs.TokenLexemes.{lexemes}
-use Rattle.td_parse.specs.Reading as reads
-use Rattle.td_parse.specs.Reading.{read, by_level, restriction, disjunction, conjunction, negation_expression, comparison_expression, compared_to, relational, additive, multiplicative, chain, operations, unary_expression, postfix_expression, postfixes, primary, numeral}
-use Rattle.td_parse.specs.ReadingOperators.{link_at, comparison_at, prefix_at, extraction_at, postfix_at}
-use Rattle.td_parse.specs.ReadingSteps.{expect}
-use Rattle.td_tree.specs.Trees as tree
-use Rattle.td_tree.specs.Trees.{Renaming, Tree}
+use Rattle.td_tree.specs.model.Grammar as grammar
+use Rattle.td_tree.specs.model.Grammar.{height_limit, Spelling, IsExpression, looser, binding, between, negation, minus, comparison, behind, literal, reference, component, setting_extension, last_setting, next_setting, renaming, renamings_in_braces, number_literal, minus_literal, loosest}
+use Rattle.td_tree.specs.model.Heights.{height}
+use Rattle.td_tree.specs.model.Keywords.{keyword_of}
+use Rattle.td_tree.specs.model.Lexemes.{Lexeme, keyword, sign}
+use Rattle.td_tree.specs.model.Lexemes as lexeme
+use Rattle.td_tree.specs.model.Lists.{one_item}
+use Rattle.td_tree.specs.model.Names.{is_name}
+use Rattle.td_tree.specs.model.Pieces.{sign_at, sign_goes_on, opens, goes_on, word_kind}
+use Rattle.td_tree.specs.model.Prints.{print}
+use Rattle.td_tree.specs.model.Statements.{tokens}
+use Rattle.td_tree.specs.model.TokenLexemes.{lexemes}
+use Rattle.td_parse.specs.code.Reading as reads
+use Rattle.td_parse.specs.code.Reading.{read, by_level, restriction, disjunction, conjunction, negation_expression, comparison_expression, compared_to, relational, additive, multiplicative, chain, operations, unary_expression, postfix_expression, postfixes, primary, numeral}
+use Rattle.td_parse.specs.code.ReadingOperators.{link_at, comparison_at, prefix_at, extraction_at, postfix_at}
+use Rattle.td_parse.specs.code.ReadingSteps.{expect}
+use Rattle.td_tree.specs.model.Trees as tree
+use Rattle.td_tree.specs.model.Trees.{Renaming, Tree}
 use Rattle.td_tree.proofs.law_lemmas.Letters.{letters}
 use Rattle.td_parse.proofs.OneTree.{expression_again}
 

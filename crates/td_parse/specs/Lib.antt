@@ -1,6 +1,3 @@
-pub mod Reading
-pub mod ReadingOperators
-pub mod ReadingStatements
-pub mod ReadingSteps
-pub mod ReadingTypes
 pub mod code
+pub mod laws
+pub mod model

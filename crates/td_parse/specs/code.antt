@@ -2,5 +2,10 @@ pub mod FoundSummaries
 pub mod Lone
 pub mod Nests
 pub mod Parsing
+pub mod Reading
+pub mod ReadingOperators
+pub mod ReadingStatements
+pub mod ReadingSteps
+pub mod ReadingTypes
 pub mod Views
 pub mod Walking

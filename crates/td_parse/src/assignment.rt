@@ -2,8 +2,9 @@
 ghost use Rattle.std.specs.Prelude.{map, option_map};
 ghost use Rattle.td_parse.specs.code.Parsing.{Moves};
 ghost use Rattle.td_parse.specs.code.Views.{named_part_view};
-ghost use Rattle.td_parse.specs.ReadingStatements as reading;
-ghost use Rattle.td_parse.specs.ReadingSteps.{in_braces_read, in_parentheses_read, list_by_commas};
+ghost use Rattle.td_parse.specs.code.ReadingStatements as reading;
+ghost use Rattle.td_parse.specs.code.ReadingSteps.{in_braces_read, in_parentheses_read};
+ghost use Rattle.td_parse.specs.code.ReadingSteps.{list_by_commas};
 ghost use Rattle.td_tree.specs.code.TreeViews.{assignment_view, statement_view, tree_view};
 
 use crate::cursor::{Cursor, SYNTAX};
@@ -28,7 +29,7 @@ pub fn expression(alloc: Global, tokens: &mut Cursor<'_, '_>) -> Result<Expr, Fa
 }
 
 /// `[WHERE e1]`
-#[tactic(auto, unfolding(crate::specs::ReadingStatements::condition, crate::specs::ReadingSteps::optional))]
+#[tactic(auto, unfolding(crate::specs::code::ReadingStatements::condition, crate::specs::code::ReadingSteps::optional))]
 fn condition(alloc: Global, tokens: &mut Cursor<'_, '_>) -> Result<Option<Expr>, Fault>
     ensures { Moves (option_map tree_view) result tokens.new (reading.condition tokens.old) }
 {
@@ -40,7 +41,7 @@ fn condition(alloc: Global, tokens: &mut Cursor<'_, '_>) -> Result<Option<Expr>,
 }
 
 /// `':=' e`
-#[tactic(auto, unfolding(crate::specs::ReadingStatements::source))]
+#[tactic(auto, unfolding(crate::specs::code::ReadingStatements::source))]
 fn source(alloc: Global, tokens: &mut Cursor<'_, '_>) -> Result<Expr, Fault>
     ensures { Moves tree_view result tokens.new (reading.source tokens.old) }
 {
@@ -77,7 +78,7 @@ fn braced_settings(alloc: Global, tokens: &mut Cursor<'_, '_>) -> Result<Vec<Nam
 }
 
 /// `'(' (name ':=' e),+ ')'` or `':' '{' (name ':=' e),+ '}'`
-#[tactic(auto, unfolding(crate::specs::ReadingStatements::styled_settings))]
+#[tactic(auto, unfolding(crate::specs::code::ReadingStatements::styled_settings))]
 fn styled_settings(
     alloc: Global,
     tokens: &mut Cursor<'_, '_>,
@@ -92,7 +93,7 @@ fn styled_settings(
 }
 
 /// `name e`, after `INSERT`
-#[tactic(auto, unfolding(crate::specs::ReadingStatements::insertion))]
+#[tactic(auto, unfolding(crate::specs::code::ReadingStatements::insertion))]
 fn insertion(alloc: Global, tokens: &mut Cursor<'_, '_>) -> Result<Assignment, Fault>
     ensures { Moves assignment_view result tokens.new (reading.insertion tokens.old) }
 {
@@ -102,7 +103,7 @@ fn insertion(alloc: Global, tokens: &mut Cursor<'_, '_>) -> Result<Assignment, F
 }
 
 /// `name e`, after `D_INSERT`
-#[tactic(auto, unfolding(crate::specs::ReadingStatements::disjoint_insertion))]
+#[tactic(auto, unfolding(crate::specs::code::ReadingStatements::disjoint_insertion))]
 fn disjoint_insertion(alloc: Global, tokens: &mut Cursor<'_, '_>) -> Result<Assignment, Fault>
     ensures { Moves assignment_view result tokens.new (reading.disjoint_insertion tokens.old) }
 {
@@ -112,7 +113,7 @@ fn disjoint_insertion(alloc: Global, tokens: &mut Cursor<'_, '_>) -> Result<Assi
 }
 
 /// `name [WHERE e1]`, after `DELETE`
-#[tactic(auto, unfolding(crate::specs::ReadingStatements::deletion))]
+#[tactic(auto, unfolding(crate::specs::code::ReadingStatements::deletion))]
 fn deletion(alloc: Global, tokens: &mut Cursor<'_, '_>) -> Result<Assignment, Fault>
     ensures { Moves assignment_view result tokens.new (reading.deletion tokens.old) }
 {
@@ -122,7 +123,7 @@ fn deletion(alloc: Global, tokens: &mut Cursor<'_, '_>) -> Result<Assignment, Fa
 }
 
 /// `name e`, after `I_DELETE`
-#[tactic(auto, unfolding(crate::specs::ReadingStatements::included_deletion))]
+#[tactic(auto, unfolding(crate::specs::code::ReadingStatements::included_deletion))]
 fn included_deletion(alloc: Global, tokens: &mut Cursor<'_, '_>) -> Result<Assignment, Fault>
     ensures { Moves assignment_view result tokens.new (reading.included_deletion tokens.old) }
 {
@@ -132,7 +133,7 @@ fn included_deletion(alloc: Global, tokens: &mut Cursor<'_, '_>) -> Result<Assig
 }
 
 /// `name [WHERE e1]` and the settings in one of their spellings, after `UPDATE`
-#[tactic(auto, unfolding(crate::specs::ReadingStatements::changing), using(crate::proofs::Views::named_from_of))]
+#[tactic(auto, unfolding(crate::specs::code::ReadingStatements::changing), using(crate::proofs::Views::named_from_of))]
 fn changing(alloc: Global, tokens: &mut Cursor<'_, '_>) -> Result<Assignment, Fault>
     ensures { Moves assignment_view result tokens.new (reading.changing tokens.old) }
 {
@@ -143,7 +144,7 @@ fn changing(alloc: Global, tokens: &mut Cursor<'_, '_>) -> Result<Assignment, Fa
 }
 
 /// An assignment.
-#[tactic(auto, unfolding(crate::specs::ReadingStatements::assignment, crate::specs::ReadingStatements::assignment_of_word))]
+#[tactic(auto, unfolding(crate::specs::code::ReadingStatements::assignment, crate::specs::code::ReadingStatements::assignment_of_word))]
 fn assignment(alloc: Global, tokens: &mut Cursor<'_, '_>) -> Result<Assignment, Fault>
     ensures { Moves assignment_view result tokens.new (reading.assignment tokens.old) }
 {
@@ -162,7 +163,7 @@ fn assignment(alloc: Global, tokens: &mut Cursor<'_, '_>) -> Result<Assignment, 
 }
 
 /// `assignment,+`
-#[tactic(auto, unfolding(crate::specs::ReadingSteps::list_by_commas, crate::specs::ReadingSteps::separated_from))]
+#[tactic(auto, unfolding(crate::specs::code::ReadingSteps::list_by_commas, crate::specs::code::ReadingSteps::separated_from))]
 fn some_assignments(alloc: Global, tokens: &mut Cursor<'_, '_>) -> Result<Vec<Assignment>, Fault>
     ensures { Moves (λ v. map assignment_view v.items) result tokens.new
         (list_by_commas reading.assignment tokens.old) }
@@ -179,7 +180,7 @@ fn some_assignments(alloc: Global, tokens: &mut Cursor<'_, '_>) -> Result<Vec<As
 }
 
 /// Assignments, all at once.
-#[tactic(auto, unfolding(crate::specs::ReadingStatements::assignments))]
+#[tactic(auto, unfolding(crate::specs::code::ReadingStatements::assignments))]
 pub fn assignments(alloc: Global, tokens: &mut Cursor<'_, '_>) -> Result<Statement, Fault>
     ensures { Moves statement_view result tokens.new (reading.assignments tokens.old) }
 {

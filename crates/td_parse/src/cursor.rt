@@ -1,17 +1,18 @@
 //! The tokens that are left to read.
 ghost use Rattle.std.specs.Prelude.{◌≡◌, Some, suc, length, IfOk, IfSome, eqb, option_map};
-ghost use Rattle.td_parse.specs.code.Parsing.{Eats, Expects, Takes, TakesWord};
-ghost use Rattle.td_tree.specs.Lexemes as lexeme;
-ghost use Rattle.td_tree.specs.Pieces.{kind_of};
-ghost use Rattle.td_parse.specs.ReadingSteps.{expect};
-ghost use Rattle.td_tree.specs.Symbols.{symbols};
-ghost use Rattle.td_tree.specs.TokenLexemes.{lexemes};
+ghost use Rattle.td_parse.specs.code.Parsing.{Eats, Expects, Sees, Takes, TakesWord};
+ghost use Rattle.td_tree.specs.model.Lexemes as lexeme;
+ghost use Rattle.td_tree.specs.model.Pieces.{kind_of};
+ghost use Rattle.td_parse.specs.code.ReadingSteps.{expect};
+ghost use Rattle.td_tree.specs.model.Symbols.{symbols};
+ghost use Rattle.td_tree.specs.model.TokenLexemes.{lexemes};
 
 use crate::ahead::Ahead;
-use crate::met::MetNames;
+use crate::shared_names::SharedNames;
 use std::alloc::{AllocError, Global};
 use std::marker::Model;
 use td_scan::token::Token;
+use td_scan::upcoming::Upcoming;
 use td_tree::cause::Cause;
 use td_tree::fault::Fault;
 use td_tree::keyword::Keyword;
@@ -25,14 +26,14 @@ pub const SYNTAX: Fault = Fault::Refused(Cause::Syntax);
 #[derive(Drop)]
 pub struct Cursor<'a, 't> {
     left: Ahead<'a, 't>,
-    names: MetNames,
+    names: SharedNames,
     /// How many parts the tuple that was read last has.
     parts: usize,
 }
 
 impl<'a, 't> Model for Cursor<'a, 't> {
     ghost use Rattle.std.specs.Prelude.{List};
-    ghost use Rattle.td_tree.specs.Lexemes.{Lexeme};
+    ghost use Rattle.td_tree.specs.model.Lexemes.{Lexeme};
 
     ghost Value = { List Lexeme };
 
@@ -46,7 +47,18 @@ impl<'a, 't> Cursor<'a, 't> {
     {
         Cursor {
             left: Ahead::new(tokens),
-            names: MetNames::new(alloc),
+            names: SharedNames::new(alloc),
+            parts: 0,
+        }
+    }
+
+    /// The tokens of a statement.
+    pub fn of_statement(alloc: Global, tokens: Upcoming<'t>) -> Cursor<'a, 't>
+        ensures { result ≡ lexemes tokens.entry }
+    {
+        Cursor {
+            left: Ahead::of_statement(tokens),
+            names: SharedNames::new(alloc),
             parts: 0,
         }
     }
@@ -77,6 +89,13 @@ impl<'a, 't> Cursor<'a, 't> {
         ensures { self.new ≡ place.entry }
     {
         self.left = place;
+    }
+
+    /// What the next token is, which is not taken.
+    pub fn kind(&self) -> Option<Kind>
+        ensures { Sees self.now result }
+    {
+        self.left.kind()
     }
 
     /// Takes the next token: what it is, and its bytes.
@@ -123,10 +142,9 @@ impl<'a, 't> Cursor<'a, 't> {
     pub fn word(&mut self) -> Option<Keyword>
         ensures { TakesWord self.old result self.new }
     {
-        let mut ahead = self.ahead();
-        match ahead.take() {
-            Some((Kind::Reserved(word), _)) => {
-                self.go_to(ahead);
+        match self.left.kind() {
+            Some(Kind::Reserved(word)) => {
+                let _ = self.left.take();
                 Some(word)
             }
             _ => None,

@@ -1,9 +1,9 @@
 //! Definitions of types, relvars and constraints, and their ends.
 ghost use Rattle.std.specs.Prelude.{map, option_map};
 ghost use Rattle.td_parse.specs.code.Parsing.{Moves};
-ghost use Rattle.td_tree.specs.Lexemes as lexeme;
-ghost use Rattle.td_parse.specs.ReadingStatements as reading;
-ghost use Rattle.td_parse.specs.ReadingSteps.{in_parentheses_read, optional};
+ghost use Rattle.td_tree.specs.model.Lexemes as lexeme;
+ghost use Rattle.td_parse.specs.code.ReadingStatements as reading;
+ghost use Rattle.td_parse.specs.code.ReadingSteps.{in_parentheses_read, optional};
 ghost use Rattle.td_tree.specs.code.TreeViews.{statement_view, tree_view};
 
 use crate::assignment::expression;
@@ -21,7 +21,7 @@ use td_tree::statement::{BaseDefinition, Statement, TypeDefinition, VirtualDefin
 use td_tree::token::{Kind, Sign};
 
 /// `[CONSTRAINT e]`
-#[tactic(auto, unfolding(crate::specs::ReadingSteps::optional))]
+#[tactic(auto, unfolding(crate::specs::code::ReadingSteps::optional))]
 fn constraint(alloc: Global, tokens: &mut Cursor<'_, '_>) -> Result<Option<Expr>, Fault>
     ensures { Moves (option_map tree_view) result tokens.new
         (optional (lexeme.keyword Keyword.Constraint) reading.expression tokens.old) }
@@ -33,7 +33,7 @@ fn constraint(alloc: Global, tokens: &mut Cursor<'_, '_>) -> Result<Option<Expr>
 }
 
 /// `'(' e ')'`
-#[tactic(auto, unfolding(crate::specs::ReadingSteps::in_parentheses_read, crate::specs::ReadingSteps::read_up_to))]
+#[tactic(auto, unfolding(crate::specs::code::ReadingSteps::in_parentheses_read, crate::specs::code::ReadingSteps::read_up_to))]
 fn enclosed_expression(alloc: Global, tokens: &mut Cursor<'_, '_>) -> Result<Expr, Fault>
     ensures { Moves tree_view result tokens.new (in_parentheses_read reading.expression tokens.old) }
 {
@@ -43,7 +43,7 @@ fn enclosed_expression(alloc: Global, tokens: &mut Cursor<'_, '_>) -> Result<Exp
 }
 
 /// `[INIT '(' e ')']`
-#[tactic(auto, unfolding(crate::specs::ReadingSteps::optional))]
+#[tactic(auto, unfolding(crate::specs::code::ReadingSteps::optional))]
 fn init(alloc: Global, tokens: &mut Cursor<'_, '_>) -> Result<Option<Expr>, Fault>
     ensures { Moves (option_map tree_view) result tokens.new
         (optional (lexeme.keyword Keyword.Init) (in_parentheses_read reading.expression) tokens.old) }
@@ -55,7 +55,7 @@ fn init(alloc: Global, tokens: &mut Cursor<'_, '_>) -> Result<Option<Expr>, Faul
 }
 
 /// `(KEY names)*`
-#[tactic(auto, unfolding(crate::specs::ReadingStatements::keys, crate::specs::ReadingSteps::list_by_words, crate::specs::ReadingSteps::repeated_from))]
+#[tactic(auto, unfolding(crate::specs::code::ReadingStatements::keys, crate::specs::code::ReadingSteps::list_by_words, crate::specs::code::ReadingSteps::repeated_from))]
 fn keys(alloc: Global, tokens: &mut Cursor<'_, '_>) -> Result<Vec<Vec<Name>>, Fault>
     ensures { Moves (λ v. map (λ key. key.items) v.items) result tokens.new
         (reading.keys tokens.old) }
@@ -72,7 +72,7 @@ fn keys(alloc: Global, tokens: &mut Cursor<'_, '_>) -> Result<Vec<Vec<Name>>, Fa
 }
 
 /// `attr,+ [CONSTRAINT e]`, of the type with this name
-#[tactic(auto, unfolding(crate::specs::ReadingStatements::components), using(crate::proofs::Views::attributes_from_of))]
+#[tactic(auto, unfolding(crate::specs::code::ReadingStatements::components), using(crate::proofs::Views::attributes_from_of))]
 fn components(alloc: Global, name: Name, tokens: &mut Cursor<'_, '_>) -> Result<Statement, Fault>
     ensures { Moves statement_view result tokens.new (reading.components name tokens.old) }
 {
@@ -86,7 +86,7 @@ fn components(alloc: Global, name: Name, tokens: &mut Cursor<'_, '_>) -> Result<
 }
 
 /// `name POSSREP '{' attr,+ [CONSTRAINT e] '}'`, after `TYPE`
-#[tactic(auto, unfolding(crate::specs::ReadingStatements::type_definition, crate::specs::ReadingSteps::read_up_to))]
+#[tactic(auto, unfolding(crate::specs::code::ReadingStatements::type_definition, crate::specs::code::ReadingSteps::read_up_to))]
 pub fn type_definition(alloc: Global, tokens: &mut Cursor<'_, '_>) -> Result<Statement, Fault>
     ensures { Moves statement_view result tokens.new (reading.type_definition tokens.old) }
 {
@@ -98,7 +98,7 @@ pub fn type_definition(alloc: Global, tokens: &mut Cursor<'_, '_>) -> Result<Sta
 }
 
 /// `RELATION heading [INIT '(' e ')'] (KEY names)*`, of the relvar with this name
-#[tactic(auto, unfolding(crate::specs::ReadingStatements::base_definition))]
+#[tactic(auto, unfolding(crate::specs::code::ReadingStatements::base_definition))]
 fn base_definition(
     alloc: Global,
     name: Name,
@@ -119,7 +119,7 @@ fn base_definition(
 }
 
 /// `'(' e ')' (KEY names)*`, of the relvar with this name
-#[tactic(auto, unfolding(crate::specs::ReadingStatements::virtual_definition))]
+#[tactic(auto, unfolding(crate::specs::code::ReadingStatements::virtual_definition))]
 fn virtual_definition(
     alloc: Global,
     name: Name,
@@ -137,7 +137,7 @@ fn virtual_definition(
 }
 
 /// After `VAR` and a name.
-#[tactic(auto, unfolding(crate::specs::ReadingStatements::variable, crate::specs::ReadingStatements::definition_of_word))]
+#[tactic(auto, unfolding(crate::specs::code::ReadingStatements::variable, crate::specs::code::ReadingStatements::definition_of_word))]
 fn variable_named(
     alloc: Global,
     name: Name,
@@ -155,7 +155,7 @@ fn variable_named(
 }
 
 /// After `VAR`.
-#[tactic(auto, unfolding(crate::specs::ReadingStatements::body_of_word))]
+#[tactic(auto, unfolding(crate::specs::code::ReadingStatements::body_of_word))]
 pub fn variable(alloc: Global, tokens: &mut Cursor<'_, '_>) -> Result<Statement, Fault>
     ensures { Moves statement_view result tokens.new (reading.body_of_word Keyword.Var tokens.old) }
 {
@@ -164,7 +164,7 @@ pub fn variable(alloc: Global, tokens: &mut Cursor<'_, '_>) -> Result<Statement,
 }
 
 /// `name e`, after `CONSTRAINT`
-#[tactic(auto, unfolding(crate::specs::ReadingStatements::constraint_definition))]
+#[tactic(auto, unfolding(crate::specs::code::ReadingStatements::constraint_definition))]
 pub fn constraint_definition(alloc: Global, tokens: &mut Cursor<'_, '_>) -> Result<Statement, Fault>
     ensures { Moves statement_view result tokens.new (reading.constraint_definition tokens.old) }
 {
@@ -174,7 +174,7 @@ pub fn constraint_definition(alloc: Global, tokens: &mut Cursor<'_, '_>) -> Resu
 }
 
 /// After `DROP`.
-#[tactic(auto, unfolding(crate::specs::ReadingStatements::drop, crate::specs::ReadingStatements::drop_of_word))]
+#[tactic(auto, unfolding(crate::specs::code::ReadingStatements::drop, crate::specs::code::ReadingStatements::drop_of_word))]
 pub fn drop(alloc: Global, tokens: &mut Cursor<'_, '_>) -> Result<Statement, Fault>
     ensures { Moves statement_view result tokens.new (reading.drop tokens.old) }
 {

@@ -2,9 +2,9 @@
 ghost use Rattle.std.specs.Prelude.{◌≡◌, ◌<◌, ◌-◌, ◌^◌, map, min, nat_le, IfOk};
 ghost use Rattle.std.specs.Rc.{rc_str_bytes};
 ghost use Rattle.td_parse.specs.code.Views.{item_view, named_part_view};
-ghost use Rattle.td_tree.specs.Heights as heights;
-ghost use Rattle.td_parse.specs.Reading.{named_from, summaries_from, trees_from};
-ghost use Rattle.td_tree.specs.Trees as trees;
+ghost use Rattle.td_tree.specs.model.Heights as heights;
+ghost use Rattle.td_parse.specs.code.Reading.{named_from, summaries_from, trees_from};
+ghost use Rattle.td_tree.specs.model.Trees as trees;
 ghost use Rattle.td_parse.specs.code.Walking.{infix_tree};
 ghost use Rattle.td_tree.specs.code.TreeViews.{attributes_view, heading_tree_view, literal_view};
 ghost use Rattle.td_tree.specs.code.TreeViews.{postfix_view, summaries_view, tree_view, trees_view};
@@ -32,7 +32,7 @@ impl Model for Found {
     ghost use Rattle.std.specs.Coded.{codes};
     ghost use Rattle.td_tree.specs.contracts.expression.Expr as expr;
     ghost use Rattle.td_tree.specs.declared.expression.Expr.{Expr};
-    ghost use Rattle.td_tree.specs.Heights as heights;
+    ghost use Rattle.td_tree.specs.model.Heights as heights;
     ghost use Rattle.td_tree.specs.code.TreeViews.{tree_view};
 
     ghost Value = { Expr };

@@ -1,11 +1,11 @@
 //! The rules that hold expressions take the parser of those as a parameter, so that each is proved
 //! by itself.
 ghost use Rattle.std.specs.Prelude.{◌≡◌, suc, nat_le};
-ghost use Rattle.td_tree.specs.Grammar.{loosest};
+ghost use Rattle.td_tree.specs.model.Grammar.{loosest};
 ghost use Rattle.td_parse.specs.code.Nests.{Nests};
 ghost use Rattle.td_parse.specs.code.Parsing.{Fits, Moves};
-ghost use Rattle.td_tree.specs.Heights.{height};
-ghost use Rattle.td_parse.specs.Reading.{read};
+ghost use Rattle.td_tree.specs.model.Heights.{height};
+ghost use Rattle.td_parse.specs.code.Reading.{read};
 ghost use Rattle.td_tree.specs.code.TreeViews.{tree_view};
 
 use crate::cursor::Cursor;

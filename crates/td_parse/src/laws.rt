@@ -1,14 +1,14 @@
 //! Laws of what tokens spell: one tree for each list of lexemes, and reading finds it.
 ghost use Rattle.std.specs.Prelude.{◌≡◌, ◌≤◌, ◌↔◌, List, Some};
-ghost use Rattle.td_parse.specs.code.Parsing.{TokensHaveOneMeaning};
-ghost use Rattle.td_parse.specs.ReadingStatements.{read_expression, read_statement};
+ghost use Rattle.td_parse.specs.laws.MeaningLaws.{TokensHaveOneMeaning};
+ghost use Rattle.td_parse.specs.code.ReadingStatements.{read_expression, read_statement};
 ghost use Rattle.td_tree.specs.declared.operator.Level.{Level};
-ghost use Rattle.td_tree.specs.Grammar.{IsExpression, Spelling, TypeSpelling, height_limit};
-ghost use Rattle.td_tree.specs.Grammar.{loosest};
-ghost use Rattle.td_tree.specs.Heights.{height};
-ghost use Rattle.td_tree.specs.Lexemes.{Lexeme};
-ghost use Rattle.td_tree.specs.StatementGrammar.{StatementSpelling};
-ghost use Rattle.td_tree.specs.Trees.{Statement, Tree, TypeTree};
+ghost use Rattle.td_tree.specs.model.Grammar.{IsExpression, Spelling, TypeSpelling, height_limit};
+ghost use Rattle.td_tree.specs.model.Grammar.{loosest};
+ghost use Rattle.td_tree.specs.model.Heights.{height};
+ghost use Rattle.td_tree.specs.model.Lexemes.{Lexeme};
+ghost use Rattle.td_tree.specs.model.StatementGrammar.{StatementSpelling};
+ghost use Rattle.td_tree.specs.model.Trees.{Statement, Tree, TypeTree};
 
 /// Every list of tokens means one statement, or is refused by one cause alone, and means
 /// nothing else.

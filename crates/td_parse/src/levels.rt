@@ -2,8 +2,8 @@
 ghost use Rattle.std.specs.Prelude.{suc};
 ghost use Rattle.td_parse.specs.code.Nests.{Nests};
 ghost use Rattle.td_parse.specs.code.Parsing.{Moves};
-ghost use Rattle.td_parse.specs.Reading as reading;
-ghost use Rattle.td_parse.specs.Reading.{read};
+ghost use Rattle.td_parse.specs.code.Reading as reading;
+ghost use Rattle.td_parse.specs.code.Reading.{read};
 ghost use Rattle.td_parse.specs.code.Walking.{tightness, walk, walk_from, infix_expression};
 ghost use Rattle.td_tree.specs.code.TreeViews.{tree_view};
 
@@ -22,7 +22,7 @@ use td_tree::token::Sign;
 
 impl<F: Fn(Global, u16, Level, &mut Cursor<'_, '_>) -> Result<Found, Fault>> Grammar<F> {
     /// Goes on with operators behind the operand.
-    #[tactic(auto, unfolding(crate::specs::Reading::postfixes))]
+    #[tactic(auto, unfolding(crate::specs::code::Reading::postfixes))]
     fn postfixes(&self, first: Found, tokens: &mut Cursor<'_, '_>) -> Result<Found, Fault>
         ensures { Moves tree_view result tokens.new
             (reading.postfixes (read self.now.depth) self.now.depth (suc self.now.depth)
@@ -42,7 +42,7 @@ impl<F: Fn(Global, u16, Level, &mut Cursor<'_, '_>) -> Result<Found, Fault>> Gra
     }
 
     /// A primary expression with what stands behind it.
-    #[tactic(auto, unfolding(crate::specs::Reading::postfix_expression))]
+    #[tactic(auto, unfolding(crate::specs::code::Reading::postfix_expression))]
     fn postfix_expression(&self, tokens: &mut Cursor<'_, '_>) -> Result<Found, Fault>
         requires { Nests self.now.depth (F.pre self.now.inner) (F.post self.now.inner) }
         ensures { Moves tree_view result tokens.new
@@ -53,7 +53,7 @@ impl<F: Fn(Global, u16, Level, &mut Cursor<'_, '_>) -> Result<Found, Fault>> Gra
     }
 
     /// After an operator that stands before its operand, which is at this level.
-    #[tactic(auto, unfolding(crate::specs::Reading::prefix_expression))]
+    #[tactic(auto, unfolding(crate::specs::code::Reading::prefix_expression))]
     fn prefix_expression(
         &self,
         level: Level,
@@ -69,7 +69,7 @@ impl<F: Fn(Global, u16, Level, &mut Cursor<'_, '_>) -> Result<Found, Fault>> Gra
     }
 
     /// An operator before its operand, an extraction, or an operand that has neither.
-    #[tactic(auto, unfolding(crate::specs::Reading::unary_expression, crate::specs::Reading::extract_expression))]
+    #[tactic(auto, unfolding(crate::specs::code::Reading::unary_expression, crate::specs::code::Reading::extract_expression))]
     fn unary_expression(&self, tokens: &mut Cursor<'_, '_>) -> Result<Found, Fault>
         requires { Nests self.now.depth (F.pre self.now.inner) (F.post self.now.inner) }
         ensures { Moves tree_view result tokens.new
@@ -129,7 +129,7 @@ impl<F: Fn(Global, u16, Level, &mut Cursor<'_, '_>) -> Result<Found, Fault>> Gra
     }
 
     /// An expression that begins with a primary one, which most often ends it.
-    #[tactic(auto, unfolding(crate::specs::Reading::postfix_expression), using(crate::proofs::LoneTuples::ends_behind, crate::proofs::LoneTuples::ends_between))]
+    #[tactic(auto, unfolding(crate::specs::code::Reading::postfix_expression), using(crate::proofs::LoneTuples::ends_behind, crate::proofs::LoneTuples::ends_between))]
     fn operand_first(&self, tokens: &mut Cursor<'_, '_>) -> Result<Found, Fault>
         requires { Nests self.now.depth (F.pre self.now.inner) (F.post self.now.inner) }
         ensures { Moves tree_view result tokens.new
@@ -146,7 +146,7 @@ impl<F: Fn(Global, u16, Level, &mut Cursor<'_, '_>) -> Result<Found, Fault>> Gra
     }
 
     /// After `WITH`.
-    #[tactic(auto, unfolding(crate::specs::Reading::binding_expression))]
+    #[tactic(auto, unfolding(crate::specs::code::Reading::binding_expression))]
     fn binding_expression(&self, tokens: &mut Cursor<'_, '_>) -> Result<Found, Fault>
         requires { Nests self.now.depth (F.pre self.now.inner) (F.post self.now.inner) }
         ensures { Moves tree_view result tokens.new
@@ -159,7 +159,7 @@ impl<F: Fn(Global, u16, Level, &mut Cursor<'_, '_>) -> Result<Found, Fault>> Gra
     }
 
     /// `WITH` and what it names, or an expression without it.
-    #[tactic(auto, unfolding(crate::specs::Reading::binding), using(crate::proofs::Walks::restriction_walked, crate::proofs::LoneTuples::tuple_binding))]
+    #[tactic(auto, unfolding(crate::specs::code::Reading::binding), using(crate::proofs::Walks::restriction_walked, crate::proofs::LoneTuples::tuple_binding))]
     fn binding(&self, tokens: &mut Cursor<'_, '_>) -> Result<Found, Fault>
         requires { Nests self.now.depth (F.pre self.now.inner) (F.post self.now.inner) }
         ensures { Moves tree_view result tokens.new
@@ -175,7 +175,7 @@ impl<F: Fn(Global, u16, Level, &mut Cursor<'_, '_>) -> Result<Found, Fault>> Gra
     }
 
     /// An expression of this level.
-    #[tactic(auto, unfolding(crate::specs::Reading::by_level))]
+    #[tactic(auto, unfolding(crate::specs::code::Reading::by_level))]
     pub fn by_level(&self, level: Level, tokens: &mut Cursor<'_, '_>) -> Result<Found, Fault>
         requires { Nests self.now.depth (F.pre self.now.inner) (F.post self.now.inner) }
         ensures { Moves tree_view result tokens.new
@@ -192,7 +192,7 @@ impl<F: Fn(Global, u16, Level, &mut Cursor<'_, '_>) -> Result<Found, Fault>> Gra
 }
 
 /// An expression of this level that is at most so high.
-#[tactic(auto, unfolding(crate::specs::Reading::read), using(crate::proofs::LoneLiterals::lone_reads))]
+#[tactic(auto, unfolding(crate::specs::code::Reading::read), using(crate::proofs::LoneLiterals::lone_reads))]
 pub fn expression(
     alloc: Global,
     depth: u16,

@@ -1,14 +1,14 @@
 //! Lists of expressions.
 ghost use Rattle.std.specs.Prelude.{map};
-ghost use Rattle.td_tree.specs.Grammar.{loosest};
+ghost use Rattle.td_tree.specs.model.Grammar.{loosest};
 ghost use Rattle.td_parse.specs.code.Nests.{Nests};
 ghost use Rattle.td_parse.specs.code.Parsing.{Moves};
 ghost use Rattle.td_parse.specs.code.Views.{named_part_view};
-ghost use Rattle.td_tree.specs.Lexemes as lexeme;
-ghost use Rattle.td_parse.specs.Reading as reading;
-ghost use Rattle.td_parse.specs.Reading.{read};
-ghost use Rattle.td_parse.specs.ReadingSteps.{in_braces_read, in_parentheses_read};
-ghost use Rattle.td_parse.specs.ReadingSteps.{listed_to, list_by_commas};
+ghost use Rattle.td_tree.specs.model.Lexemes as lexeme;
+ghost use Rattle.td_parse.specs.code.Reading as reading;
+ghost use Rattle.td_parse.specs.code.Reading.{read};
+ghost use Rattle.td_parse.specs.code.ReadingSteps.{in_braces_read, in_parentheses_read};
+ghost use Rattle.td_parse.specs.code.ReadingSteps.{listed_to, list_by_commas};
 ghost use Rattle.td_tree.specs.code.TreeViews.{tree_view};
 
 use crate::cursor::{Cursor, SYNTAX};
@@ -25,7 +25,7 @@ use td_tree::token::Sign;
 
 impl<F: Fn(Global, u16, Level, &mut Cursor<'_, '_>) -> Result<Found, Fault>> Grammar<F> {
     /// `e,+`
-    #[tactic(auto, unfolding(crate::specs::ReadingSteps::list_by_commas, crate::specs::ReadingSteps::separated_from))]
+    #[tactic(auto, unfolding(crate::specs::code::ReadingSteps::list_by_commas, crate::specs::code::ReadingSteps::separated_from))]
     pub fn elements(&self, tokens: &mut Cursor<'_, '_>) -> Result<Elements, Fault>
         requires { Nests self.now.depth (F.pre self.now.inner) (F.post self.now.inner) }
         ensures { Moves (map tree_view) result tokens.new
@@ -43,7 +43,7 @@ impl<F: Fn(Global, u16, Level, &mut Cursor<'_, '_>) -> Result<Found, Fault>> Gra
     }
 
     /// `e,*` and the sign that closes them.
-    #[tactic(auto, unfolding(crate::specs::ReadingSteps::listed_to, crate::specs::ReadingSteps::read_up_to))]
+    #[tactic(auto, unfolding(crate::specs::code::ReadingSteps::listed_to, crate::specs::code::ReadingSteps::read_up_to))]
     pub fn elements_to(&self, close: Sign, tokens: &mut Cursor<'_, '_>) -> Result<Elements, Fault>
         requires { Nests self.now.depth (F.pre self.now.inner) (F.post self.now.inner) }
         ensures { Moves (map tree_view) result tokens.new
@@ -57,7 +57,7 @@ impl<F: Fn(Global, u16, Level, &mut Cursor<'_, '_>) -> Result<Found, Fault>> Gra
     }
 
     /// `name e`
-    #[tactic(auto, unfolding(crate::specs::Reading::part))]
+    #[tactic(auto, unfolding(crate::specs::code::Reading::part))]
     fn part(&self, tokens: &mut Cursor<'_, '_>) -> Result<(Name, Found), Fault>
         requires { Nests self.now.depth (F.pre self.now.inner) (F.post self.now.inner) }
         ensures { Moves (λ x. (x.0, tree_view x.1)) result tokens.new
@@ -69,7 +69,7 @@ impl<F: Fn(Global, u16, Level, &mut Cursor<'_, '_>) -> Result<Found, Fault>> Gra
     }
 
     /// `(name e),+`
-    #[tactic(auto, unfolding(crate::specs::ReadingSteps::list_by_commas, crate::specs::ReadingSteps::separated_from))]
+    #[tactic(auto, unfolding(crate::specs::code::ReadingSteps::list_by_commas, crate::specs::code::ReadingSteps::separated_from))]
     fn parts(&self, tokens: &mut Cursor<'_, '_>) -> Result<NamedParts, Fault>
         requires { Nests self.now.depth (F.pre self.now.inner) (F.post self.now.inner) }
         ensures { Moves (map named_part_view) result tokens.new
@@ -89,7 +89,7 @@ impl<F: Fn(Global, u16, Level, &mut Cursor<'_, '_>) -> Result<Found, Fault>> Gra
     }
 
     /// `(name e),* '}'`
-    #[tactic(auto, unfolding(crate::specs::ReadingSteps::listed_to, crate::specs::ReadingSteps::read_up_to))]
+    #[tactic(auto, unfolding(crate::specs::code::ReadingSteps::listed_to, crate::specs::code::ReadingSteps::read_up_to))]
     pub fn parts_to_brace(&self, tokens: &mut Cursor<'_, '_>) -> Result<NamedParts, Fault>
         requires { Nests self.now.depth (F.pre self.now.inner) (F.post self.now.inner) }
         ensures { Moves (map named_part_view) result tokens.new
@@ -104,7 +104,7 @@ impl<F: Fn(Global, u16, Level, &mut Cursor<'_, '_>) -> Result<Found, Fault>> Gra
     }
 
     /// `e AS name`
-    #[tactic(auto, unfolding(crate::specs::Reading::addition))]
+    #[tactic(auto, unfolding(crate::specs::code::Reading::addition))]
     fn addition(&self, tokens: &mut Cursor<'_, '_>) -> Result<(Name, Found), Fault>
         requires { Nests self.now.depth (F.pre self.now.inner) (F.post self.now.inner) }
         ensures { Moves (λ x. (x.0, tree_view x.1)) result tokens.new
@@ -116,7 +116,7 @@ impl<F: Fn(Global, u16, Level, &mut Cursor<'_, '_>) -> Result<Found, Fault>> Gra
     }
 
     /// `(e AS name),+`
-    #[tactic(auto, unfolding(crate::specs::ReadingSteps::list_by_commas, crate::specs::ReadingSteps::separated_from))]
+    #[tactic(auto, unfolding(crate::specs::code::ReadingSteps::list_by_commas, crate::specs::code::ReadingSteps::separated_from))]
     fn additions(&self, tokens: &mut Cursor<'_, '_>) -> Result<NamedParts, Fault>
         requires { Nests self.now.depth (F.pre self.now.inner) (F.post self.now.inner) }
         ensures { Moves (map named_part_view) result tokens.new
@@ -135,7 +135,7 @@ impl<F: Fn(Global, u16, Level, &mut Cursor<'_, '_>) -> Result<Found, Fault>> Gra
     }
 
     /// `'(' (e AS name),+ ')'`
-    #[tactic(auto, unfolding(crate::specs::ReadingSteps::in_parentheses_read, crate::specs::ReadingSteps::read_up_to))]
+    #[tactic(auto, unfolding(crate::specs::code::ReadingSteps::in_parentheses_read, crate::specs::code::ReadingSteps::read_up_to))]
     pub fn enclosed_additions(&self, tokens: &mut Cursor<'_, '_>) -> Result<NamedParts, Fault>
         requires { Nests self.now.depth (F.pre self.now.inner) (F.post self.now.inner) }
         ensures { Moves (map named_part_view) result tokens.new
@@ -149,7 +149,7 @@ impl<F: Fn(Global, u16, Level, &mut Cursor<'_, '_>) -> Result<Found, Fault>> Gra
     }
 
     /// `name ':=' e`
-    #[tactic(auto, unfolding(crate::specs::Reading::setting))]
+    #[tactic(auto, unfolding(crate::specs::code::Reading::setting))]
     fn setting(&self, tokens: &mut Cursor<'_, '_>) -> Result<(Name, Found), Fault>
         requires { Nests self.now.depth (F.pre self.now.inner) (F.post self.now.inner) }
         ensures { Moves (λ x. (x.0, tree_view x.1)) result tokens.new
@@ -162,7 +162,7 @@ impl<F: Fn(Global, u16, Level, &mut Cursor<'_, '_>) -> Result<Found, Fault>> Gra
     }
 
     /// `(name ':=' e),+`
-    #[tactic(auto, unfolding(crate::specs::ReadingSteps::list_by_commas, crate::specs::ReadingSteps::separated_from))]
+    #[tactic(auto, unfolding(crate::specs::code::ReadingSteps::list_by_commas, crate::specs::code::ReadingSteps::separated_from))]
     fn settings(&self, tokens: &mut Cursor<'_, '_>) -> Result<NamedParts, Fault>
         requires { Nests self.now.depth (F.pre self.now.inner) (F.post self.now.inner) }
         ensures { Moves (map named_part_view) result tokens.new
@@ -181,7 +181,7 @@ impl<F: Fn(Global, u16, Level, &mut Cursor<'_, '_>) -> Result<Found, Fault>> Gra
     }
 
     /// `'(' (name ':=' e),+ ')'`
-    #[tactic(auto, unfolding(crate::specs::ReadingSteps::in_parentheses_read, crate::specs::ReadingSteps::read_up_to))]
+    #[tactic(auto, unfolding(crate::specs::code::ReadingSteps::in_parentheses_read, crate::specs::code::ReadingSteps::read_up_to))]
     pub fn enclosed_settings(&self, tokens: &mut Cursor<'_, '_>) -> Result<NamedParts, Fault>
         requires { Nests self.now.depth (F.pre self.now.inner) (F.post self.now.inner) }
         ensures { Moves (map named_part_view) result tokens.new
@@ -195,7 +195,7 @@ impl<F: Fn(Global, u16, Level, &mut Cursor<'_, '_>) -> Result<Found, Fault>> Gra
     }
 
     /// `'{' (name ':=' e),+ '}'`
-    #[tactic(auto, unfolding(crate::specs::ReadingSteps::in_braces_read, crate::specs::ReadingSteps::read_up_to))]
+    #[tactic(auto, unfolding(crate::specs::code::ReadingSteps::in_braces_read, crate::specs::code::ReadingSteps::read_up_to))]
     pub fn braced_settings(&self, tokens: &mut Cursor<'_, '_>) -> Result<NamedParts, Fault>
         requires { Nests self.now.depth (F.pre self.now.inner) (F.post self.now.inner) }
         ensures { Moves (map named_part_view) result tokens.new

@@ -2,9 +2,9 @@
 ghost use Rattle.std.specs.Prelude.{◌≡◌, IfOk, Some, option_map};
 ghost use Rattle.td_parse.specs.code.Lone as lone;
 ghost use Rattle.td_parse.specs.code.Parsing.{Tries, seen_as};
-ghost use Rattle.td_tree.specs.Numbers.{decimal_value};
-ghost use Rattle.td_tree.specs.Pieces.{kind_of};
-ghost use Rattle.td_tree.specs.Symbols.{symbols};
+ghost use Rattle.td_tree.specs.model.Numbers.{decimal_value};
+ghost use Rattle.td_tree.specs.model.Pieces.{kind_of};
+ghost use Rattle.td_tree.specs.model.Symbols.{symbols};
 ghost use Rattle.td_tree.specs.code.TreeViews.{literal_view};
 
 use crate::ahead::Ahead;
@@ -20,8 +20,8 @@ use td_tree::token::{Kind, Sign};
 pub fn ends(tokens: &Ahead<'_, '_>) -> bool
     ensures { result ≡ lone.end_at tokens.now }
 {
-    match tokens.again().take() {
-        Some((Kind::Sign(sign), _)) => matches!(
+    match tokens.kind() {
+        Some(Kind::Sign(sign)) => matches!(
             sign,
             Sign::Comma | Sign::CloseParenthesis | Sign::CloseBrace
         ),

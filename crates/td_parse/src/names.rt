@@ -1,8 +1,8 @@
 //! Names, and the lists of them.
 ghost use Rattle.std.specs.Prelude.{map};
 ghost use Rattle.td_parse.specs.code.Parsing.{Moves};
-ghost use Rattle.td_parse.specs.ReadingSteps as reading;
-ghost use Rattle.td_parse.specs.ReadingSteps.{read_name, list_by_commas};
+ghost use Rattle.td_parse.specs.code.ReadingSteps as reading;
+ghost use Rattle.td_parse.specs.code.ReadingSteps.{read_name, list_by_commas};
 ghost use Rattle.td_tree.specs.code.TreeViews.{attributes_view, renaming_view};
 
 use crate::cursor::{Cursor, SYNTAX};
@@ -15,7 +15,7 @@ use td_tree::name::Name;
 use td_tree::token::{Kind, Sign};
 
 /// A name.
-#[tactic(auto, unfolding(crate::specs::ReadingSteps::read_name))]
+#[tactic(auto, unfolding(crate::specs::code::ReadingSteps::read_name))]
 pub fn name(alloc: Global, tokens: &mut Cursor<'_, '_>) -> Result<Name, Fault>
     ensures { Moves (λ n. n) result tokens.new (read_name tokens.old) }
 {
@@ -26,7 +26,7 @@ pub fn name(alloc: Global, tokens: &mut Cursor<'_, '_>) -> Result<Name, Fault>
 }
 
 /// `AS name`
-#[tactic(auto, unfolding(crate::specs::ReadingSteps::read_as))]
+#[tactic(auto, unfolding(crate::specs::code::ReadingSteps::read_as))]
 pub fn alias(alloc: Global, tokens: &mut Cursor<'_, '_>) -> Result<Name, Fault>
     ensures { Moves (λ n. n) result tokens.new (reading.read_as tokens.old) }
 {
@@ -35,7 +35,7 @@ pub fn alias(alloc: Global, tokens: &mut Cursor<'_, '_>) -> Result<Name, Fault>
 }
 
 /// `name,+`
-#[tactic(auto, unfolding(crate::specs::ReadingSteps::list_by_commas, crate::specs::ReadingSteps::separated_from))]
+#[tactic(auto, unfolding(crate::specs::code::ReadingSteps::list_by_commas, crate::specs::code::ReadingSteps::separated_from))]
 fn some_names(alloc: Global, tokens: &mut Cursor<'_, '_>) -> Result<Vec<Name>, Fault>
     ensures { Moves (λ v. v.items) result tokens.new (list_by_commas read_name tokens.old) }
 {
@@ -51,7 +51,7 @@ fn some_names(alloc: Global, tokens: &mut Cursor<'_, '_>) -> Result<Vec<Name>, F
 }
 
 /// `name,* '}'`
-#[tactic(auto, unfolding(crate::specs::ReadingSteps::names_to_brace, crate::specs::ReadingSteps::listed_to, crate::specs::ReadingSteps::read_up_to))]
+#[tactic(auto, unfolding(crate::specs::code::ReadingSteps::names_to_brace, crate::specs::code::ReadingSteps::listed_to, crate::specs::code::ReadingSteps::read_up_to))]
 fn names_to_brace(alloc: Global, tokens: &mut Cursor<'_, '_>) -> Result<Vec<Name>, Fault>
     ensures { Moves (λ v. v.items) result tokens.new (reading.names_to_brace tokens.old) }
 {
@@ -63,7 +63,7 @@ fn names_to_brace(alloc: Global, tokens: &mut Cursor<'_, '_>) -> Result<Vec<Name
 }
 
 /// `'{' name,* '}'`
-#[tactic(auto, unfolding(crate::specs::ReadingSteps::names))]
+#[tactic(auto, unfolding(crate::specs::code::ReadingSteps::names))]
 pub fn names(alloc: Global, tokens: &mut Cursor<'_, '_>) -> Result<Vec<Name>, Fault>
     ensures { Moves (λ v. v.items) result tokens.new (reading.names tokens.old) }
 {
@@ -72,7 +72,7 @@ pub fn names(alloc: Global, tokens: &mut Cursor<'_, '_>) -> Result<Vec<Name>, Fa
 }
 
 /// `'{' name,* '}'` or `'{' ALL BUT name,* '}'`
-#[tactic(auto, unfolding(crate::specs::ReadingSteps::attribute_list, crate::specs::ReadingSteps::all_but))]
+#[tactic(auto, unfolding(crate::specs::code::ReadingSteps::attribute_list, crate::specs::code::ReadingSteps::all_but))]
 pub fn attributes(alloc: Global, tokens: &mut Cursor<'_, '_>) -> Result<Attributes, Fault>
     ensures { Moves attributes_view result tokens.new (reading.attribute_list tokens.old) }
 {
@@ -86,7 +86,7 @@ pub fn attributes(alloc: Global, tokens: &mut Cursor<'_, '_>) -> Result<Attribut
 }
 
 /// `name AS name`
-#[tactic(auto, unfolding(crate::specs::ReadingSteps::read_renaming))]
+#[tactic(auto, unfolding(crate::specs::code::ReadingSteps::read_renaming))]
 fn renaming(alloc: Global, tokens: &mut Cursor<'_, '_>) -> Result<Renaming, Fault>
     ensures { Moves renaming_view result tokens.new (reading.read_renaming tokens.old) }
 {
@@ -96,7 +96,7 @@ fn renaming(alloc: Global, tokens: &mut Cursor<'_, '_>) -> Result<Renaming, Faul
 }
 
 /// `(name AS name),+`
-#[tactic(auto, unfolding(crate::specs::ReadingSteps::list_by_commas, crate::specs::ReadingSteps::separated_from))]
+#[tactic(auto, unfolding(crate::specs::code::ReadingSteps::list_by_commas, crate::specs::code::ReadingSteps::separated_from))]
 pub fn renamings(alloc: Global, tokens: &mut Cursor<'_, '_>) -> Result<Vec<Renaming>, Fault>
     ensures { Moves (λ v. map renaming_view v.items) result tokens.new
         (list_by_commas reading.read_renaming tokens.old) }

@@ -1,8 +1,8 @@
 //! What the next tokens begin: an operator, a comparison, a call and so on.
 ghost use Rattle.std.specs.Prelude.{◌≡◌, IfOk};
 ghost use Rattle.td_parse.specs.code.Parsing.{Eats, Finds, Tries};
-ghost use Rattle.td_tree.specs.Grammar as grammar;
-ghost use Rattle.td_parse.specs.ReadingOperators as reading;
+ghost use Rattle.td_tree.specs.model.Grammar as grammar;
+ghost use Rattle.td_parse.specs.code.ReadingOperators as reading;
 ghost use Rattle.td_parse.specs.code.Walking as walking;
 
 use crate::ahead::Ahead;
@@ -255,11 +255,11 @@ pub fn negation(level: Level, tokens: &mut Cursor<'_, '_>) -> bool
 fn begins_with_number(tokens: &Ahead<'_, '_>) -> bool
     ensures { result ≡ reading.begins_with_number tokens.now }
 {
-    matches!(tokens.again().take(), Some((Kind::Number, _)))
+    matches!(tokens.kind(), Some(Kind::Number))
 }
 
 /// Takes an operator that stands before its operand.
-#[tactic(auto, unfolding(crate::specs::ReadingOperators::prefix_at))]
+#[tactic(auto, unfolding(crate::specs::code::ReadingOperators::prefix_at))]
 fn any_prefix(tokens: &mut Ahead<'_, '_>) -> Option<Prefix>
     ensures { Finds result tokens.new (reading.prefix_at tokens.old) }
 {
@@ -284,7 +284,7 @@ pub fn prefix(tokens: &mut Cursor<'_, '_>) -> Option<Prefix>
 }
 
 /// Takes a name and `FROM`, if these come next.
-#[tactic(auto, unfolding(crate::specs::ReadingOperators::extraction_at))]
+#[tactic(auto, unfolding(crate::specs::code::ReadingOperators::extraction_at))]
 pub fn extraction(alloc: Global, tokens: &mut Cursor<'_, '_>) -> Result<Option<Name>, AllocError>
     ensures { IfOk result (λ n. Tries n tokens.old tokens.new (reading.extraction_at tokens.old)) }
 {
@@ -313,7 +313,7 @@ fn begins_setting(tokens: &Ahead<'_, '_>) -> bool
 }
 
 /// After a name: takes the parenthesis that opens a call's arguments, if it comes next.
-#[tactic(auto, unfolding(crate::specs::ReadingOperators::call_at))]
+#[tactic(auto, unfolding(crate::specs::code::ReadingOperators::call_at))]
 pub fn call(tokens: &mut Cursor<'_, '_>) -> bool
     ensures { Eats (reading.call_at tokens.old) result tokens.old tokens.new }
 {
@@ -344,7 +344,7 @@ fn begins_attribute(tokens: &Ahead<'_, '_>) -> bool
 }
 
 /// After `RELATION`: whether a heading comes next, and not the elements.
-#[tactic(auto, unfolding(crate::specs::ReadingOperators::heading_at))]
+#[tactic(auto, unfolding(crate::specs::code::ReadingOperators::heading_at))]
 pub fn begins_heading(tokens: &Cursor<'_, '_>) -> bool
     ensures { result ≡ reading.heading_at tokens.now }
 {

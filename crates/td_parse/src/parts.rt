@@ -21,7 +21,7 @@ impl Model for Elements {
     ghost use Rattle.std.specs.Coded.{codes};
     ghost use Rattle.td_tree.specs.contracts.expression.Expr as expr;
     ghost use Rattle.td_tree.specs.declared.expression.Expr.{Expr};
-    ghost use Rattle.td_tree.specs.Heights.{highest};
+    ghost use Rattle.td_tree.specs.model.Heights.{highest};
     ghost use Rattle.td_tree.specs.code.TreeViews.{trees_view};
 
     ghost Value = { List Expr };
@@ -68,7 +68,7 @@ impl Model for NamedParts {
     ghost use Rattle.std.specs.Coded.{codes};
     ghost use Rattle.td_tree.specs.contracts.expression.NamedExpr as named_expr;
     ghost use Rattle.td_tree.specs.declared.expression.NamedExpr.{NamedExpr};
-    ghost use Rattle.td_tree.specs.Heights.{highest_named};
+    ghost use Rattle.td_tree.specs.model.Heights.{highest_named};
     ghost use Rattle.td_tree.specs.code.TreeViews.{named_view};
 
     ghost Value = { List NamedExpr };
@@ -149,7 +149,7 @@ impl Model for Summaries {
     ghost use Rattle.std.specs.Coded.{codes};
     ghost use Rattle.td_tree.specs.contracts.expression.Summary as summary;
     ghost use Rattle.td_tree.specs.declared.expression.Summary.{Summary};
-    ghost use Rattle.td_tree.specs.Heights.{highest_summary};
+    ghost use Rattle.td_tree.specs.model.Heights.{highest_summary};
     ghost use Rattle.td_tree.specs.code.TreeViews.{summaries_view};
 
     ghost Value = { List Summary };

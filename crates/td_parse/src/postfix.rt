@@ -1,10 +1,10 @@
 //! Operators behind their operand.
 ghost use Rattle.std.specs.Prelude.{◌≡◌, map};
 ghost use Rattle.td_parse.specs.code.Parsing.{Moves};
-ghost use Rattle.td_parse.specs.Reading as reading;
-ghost use Rattle.td_parse.specs.ReadingOperators.{postfix_at};
-ghost use Rattle.td_parse.specs.ReadingSteps.{in_parentheses_read, read_name, read_renaming};
-ghost use Rattle.td_parse.specs.ReadingSteps.{list_by_commas};
+ghost use Rattle.td_parse.specs.code.Reading as reading;
+ghost use Rattle.td_parse.specs.code.ReadingOperators.{postfix_at};
+ghost use Rattle.td_parse.specs.code.ReadingSteps.{in_parentheses_read, read_name, read_renaming};
+ghost use Rattle.td_parse.specs.code.ReadingSteps.{list_by_commas};
 ghost use Rattle.td_tree.specs.code.TreeViews.{attributes_view, postfix_view, renaming_view};
 
 use crate::cursor::{Cursor, SYNTAX};
@@ -19,13 +19,13 @@ use td_tree::operator::Style;
 use td_tree::token::{Kind, Sign};
 
 /// Whether an operator behind its operand comes next.
-#[tactic(auto, unfolding(crate::specs::ReadingOperators::postfix_at))]
+#[tactic(auto, unfolding(crate::specs::code::ReadingOperators::postfix_at))]
 pub fn begins_postfix(tokens: &Cursor<'_, '_>) -> bool
     ensures { result ≡ postfix_at tokens.now }
 {
-    match tokens.ahead().take() {
-        Some((Kind::Sign(sign), _)) => matches!(sign, Sign::OpenBrace),
-        Some((Kind::Reserved(word), _)) => matches!(
+    match tokens.kind() {
+        Some(Kind::Sign(sign)) => matches!(sign, Sign::OpenBrace),
+        Some(Kind::Reserved(word)) => matches!(
             word,
             Keyword::Rename | Keyword::Group | Keyword::Ungroup | Keyword::Wrap | Keyword::Unwrap
         ),
@@ -34,7 +34,7 @@ pub fn begins_postfix(tokens: &Cursor<'_, '_>) -> bool
 }
 
 /// `'(' name ')'`
-#[tactic(auto, unfolding(crate::specs::ReadingSteps::in_parentheses_read, crate::specs::ReadingSteps::read_up_to))]
+#[tactic(auto, unfolding(crate::specs::code::ReadingSteps::in_parentheses_read, crate::specs::code::ReadingSteps::read_up_to))]
 fn enclosed_name(alloc: Global, tokens: &mut Cursor<'_, '_>) -> Result<Name, Fault>
     ensures { Moves (λ n. n) result tokens.new (in_parentheses_read read_name tokens.old) }
 {
@@ -44,7 +44,7 @@ fn enclosed_name(alloc: Global, tokens: &mut Cursor<'_, '_>) -> Result<Name, Fau
 }
 
 /// `'(' (name AS name),+ ')'`
-#[tactic(auto, unfolding(crate::specs::ReadingSteps::in_parentheses_read, crate::specs::ReadingSteps::read_up_to))]
+#[tactic(auto, unfolding(crate::specs::code::ReadingSteps::in_parentheses_read, crate::specs::code::ReadingSteps::read_up_to))]
 fn enclosed_renamings(alloc: Global, tokens: &mut Cursor<'_, '_>) -> Result<Vec<Renaming>, Fault>
     ensures { Moves (λ v. map renaming_view v.items) result tokens.new
         (in_parentheses_read (list_by_commas read_renaming) tokens.old) }
@@ -55,7 +55,7 @@ fn enclosed_renamings(alloc: Global, tokens: &mut Cursor<'_, '_>) -> Result<Vec<
 }
 
 /// `'(' (name AS name),+ ')'` or `'{' (name AS name),+ '}'`, after `RENAME`
-#[tactic(auto, unfolding(crate::specs::ReadingSteps::read_up_to, crate::specs::Reading::styled_renamings))]
+#[tactic(auto, unfolding(crate::specs::code::ReadingSteps::read_up_to, crate::specs::code::Reading::styled_renamings))]
 fn styled_renamings(
     alloc: Global,
     tokens: &mut Cursor<'_, '_>,
@@ -72,7 +72,7 @@ fn styled_renamings(
 }
 
 /// `attrs AS name`
-#[tactic(auto, unfolding(crate::specs::Reading::named_attributes))]
+#[tactic(auto, unfolding(crate::specs::code::Reading::named_attributes))]
 fn named_attributes(alloc: Global, tokens: &mut Cursor<'_, '_>) -> Result<(Attributes, Name), Fault>
     ensures { Moves (λ x. (attributes_view x.0, x.1)) result tokens.new
         (reading.named_attributes tokens.old) }
@@ -82,7 +82,7 @@ fn named_attributes(alloc: Global, tokens: &mut Cursor<'_, '_>) -> Result<(Attri
 }
 
 /// `'(' attrs AS name ')'` or `attrs AS name`, after `GROUP` or `WRAP`
-#[tactic(auto, unfolding(crate::specs::ReadingSteps::read_up_to, crate::specs::Reading::styled_attributes))]
+#[tactic(auto, unfolding(crate::specs::code::ReadingSteps::read_up_to, crate::specs::code::Reading::styled_attributes))]
 fn styled_attributes(
     alloc: Global,
     tokens: &mut Cursor<'_, '_>,
@@ -100,7 +100,7 @@ fn styled_attributes(
 }
 
 /// An operator that begins with this word, after it.
-#[tactic(auto, unfolding(crate::specs::Reading::postfix_of_word))]
+#[tactic(auto, unfolding(crate::specs::code::Reading::postfix_of_word))]
 fn postfix_of_word(
     alloc: Global,
     word: Keyword,
@@ -128,7 +128,7 @@ fn postfix_of_word(
 }
 
 /// An operator behind its operand.
-#[tactic(auto, unfolding(crate::specs::Reading::read_postfix), using(crate::proofs::Beginnings::projection))]
+#[tactic(auto, unfolding(crate::specs::code::Reading::read_postfix), using(crate::proofs::Beginnings::projection))]
 pub fn postfix(alloc: Global, tokens: &mut Cursor<'_, '_>) -> Result<Postfix, Fault>
     ensures { Moves postfix_view result tokens.new (reading.read_postfix tokens.old) }
 {

@@ -1,17 +1,17 @@
 //! Primary expressions.
 ghost use Rattle.std.specs.Prelude.{◌≡◌, Some, None, nat_le, option_map, if◌then◌else◌};
-ghost use Rattle.td_tree.specs.Grammar.{loosest};
+ghost use Rattle.td_tree.specs.model.Grammar.{loosest};
 ghost use Rattle.td_parse.specs.code.Nests.{Nests};
 ghost use Rattle.td_parse.specs.code.Parsing.{Moves};
-ghost use Rattle.td_tree.specs.Lexemes as lexeme;
-ghost use Rattle.td_tree.specs.Numbers.{decimal_value, numeral_limit};
-ghost use Rattle.td_tree.specs.Pieces.{kind_of};
-ghost use Rattle.td_parse.specs.Reading as reading;
-ghost use Rattle.td_parse.specs.Reading.{read};
-ghost use Rattle.td_parse.specs.ReadingSteps.{read_up_to};
+ghost use Rattle.td_tree.specs.model.Lexemes as lexeme;
+ghost use Rattle.td_tree.specs.model.Numbers.{decimal_value, numeral_limit};
+ghost use Rattle.td_tree.specs.model.Pieces.{kind_of};
+ghost use Rattle.td_parse.specs.code.Reading as reading;
+ghost use Rattle.td_parse.specs.code.Reading.{read};
+ghost use Rattle.td_parse.specs.code.ReadingSteps.{read_up_to};
 ghost use Rattle.std.specs.Rc.{rc_str_bytes};
-ghost use Rattle.td_tree.specs.Symbols.{symbols};
-ghost use Rattle.td_tree.specs.Trees as trees;
+ghost use Rattle.td_tree.specs.model.Symbols.{symbols};
+ghost use Rattle.td_tree.specs.model.Trees as trees;
 ghost use Rattle.td_tree.specs.code.TreeViews.{tree_view};
 
 use crate::cursor::{Cursor, SYNTAX};
@@ -42,7 +42,7 @@ fn numeral(minus: bool, text: &[u8]) -> Option<Found>
 }
 
 /// After `-`: a number.
-#[tactic(auto, unfolding(crate::specs::Reading::negative, crate::specs::Reading::numeral))]
+#[tactic(auto, unfolding(crate::specs::code::Reading::negative, crate::specs::code::Reading::numeral))]
 fn negative(tokens: &mut Cursor<'_, '_>) -> Result<Found, Fault>
     ensures { Moves tree_view result tokens.new (reading.negative tokens.old) }
 {
@@ -54,7 +54,7 @@ fn negative(tokens: &mut Cursor<'_, '_>) -> Result<Found, Fault>
 
 impl<F: Fn(Global, u16, Level, &mut Cursor<'_, '_>) -> Result<Found, Fault>> Grammar<F> {
     /// `e` and the sign that closes it.
-    #[tactic(auto, unfolding(crate::specs::ReadingSteps::read_up_to))]
+    #[tactic(auto, unfolding(crate::specs::code::ReadingSteps::read_up_to))]
     pub fn up_to_sign(&self, close: Sign, tokens: &mut Cursor<'_, '_>) -> Result<Found, Fault>
         requires { Nests self.now.depth (F.pre self.now.inner) (F.post self.now.inner) }
         ensures { Moves tree_view result tokens.new
@@ -65,7 +65,7 @@ impl<F: Fn(Global, u16, Level, &mut Cursor<'_, '_>) -> Result<Found, Fault>> Gra
     }
 
     /// `e` and the word that closes it.
-    #[tactic(auto, unfolding(crate::specs::ReadingSteps::read_up_to))]
+    #[tactic(auto, unfolding(crate::specs::code::ReadingSteps::read_up_to))]
     fn up_to_word(&self, close: Keyword, tokens: &mut Cursor<'_, '_>) -> Result<Found, Fault>
         requires { Nests self.now.depth (F.pre self.now.inner) (F.post self.now.inner) }
         ensures { Moves tree_view result tokens.new
@@ -76,7 +76,7 @@ impl<F: Fn(Global, u16, Level, &mut Cursor<'_, '_>) -> Result<Found, Fault>> Gra
     }
 
     /// After a name: it stands alone, or selects a value of a type.
-    #[tactic(auto, unfolding(crate::specs::Reading::name_expression))]
+    #[tactic(auto, unfolding(crate::specs::code::Reading::name_expression))]
     fn name_expression(&self, name: Name, tokens: &mut Cursor<'_, '_>) -> Result<Found, Fault>
         requires { Nests self.now.depth (F.pre self.now.inner) (F.post self.now.inner) }
         ensures { Moves tree_view result tokens.new
@@ -91,7 +91,7 @@ impl<F: Fn(Global, u16, Level, &mut Cursor<'_, '_>) -> Result<Found, Fault>> Gra
     }
 
     /// After a THE word.
-    #[tactic(auto, unfolding(crate::specs::Reading::component_of))]
+    #[tactic(auto, unfolding(crate::specs::code::Reading::component_of))]
     fn component(&self, rest: RcStr, tokens: &mut Cursor<'_, '_>) -> Result<Found, Fault>
         requires { Nests self.now.depth (F.pre self.now.inner) (F.post self.now.inner) }
         ensures { Moves tree_view result tokens.new
@@ -103,7 +103,7 @@ impl<F: Fn(Global, u16, Level, &mut Cursor<'_, '_>) -> Result<Found, Fault>> Gra
     }
 
     /// After `(`.
-    #[tactic(auto, unfolding(crate::specs::Reading::parenthesis_expression))]
+    #[tactic(auto, unfolding(crate::specs::code::Reading::parenthesis_expression))]
     fn parenthesis_expression(&self, tokens: &mut Cursor<'_, '_>) -> Result<Found, Fault>
         requires { Nests self.now.depth (F.pre self.now.inner) (F.post self.now.inner) }
         ensures { Moves tree_view result tokens.new
@@ -114,7 +114,7 @@ impl<F: Fn(Global, u16, Level, &mut Cursor<'_, '_>) -> Result<Found, Fault>> Gra
     }
 
     /// After `COUNT` or `IS_EMPTY`.
-    #[tactic(auto, unfolding(crate::specs::Reading::measure_expression))]
+    #[tactic(auto, unfolding(crate::specs::code::Reading::measure_expression))]
     fn measure_expression(&self, op: Measure, tokens: &mut Cursor<'_, '_>) -> Result<Found, Fault>
         requires { Nests self.now.depth (F.pre self.now.inner) (F.post self.now.inner) }
         ensures { Moves tree_view result tokens.new
@@ -125,7 +125,7 @@ impl<F: Fn(Global, u16, Level, &mut Cursor<'_, '_>) -> Result<Found, Fault>> Gra
     }
 
     /// After `SUM`, `MAX` or `MIN`.
-    #[tactic(auto, unfolding(crate::specs::Reading::aggregate_expression))]
+    #[tactic(auto, unfolding(crate::specs::code::Reading::aggregate_expression))]
     fn aggregate_expression(
         &self,
         op: Aggregate,
@@ -143,7 +143,7 @@ impl<F: Fn(Global, u16, Level, &mut Cursor<'_, '_>) -> Result<Found, Fault>> Gra
     }
 
     /// `heading '{' e,* '}'`
-    #[tactic(auto, unfolding(crate::specs::Reading::headed_relation))]
+    #[tactic(auto, unfolding(crate::specs::code::Reading::headed_relation))]
     fn headed_relation(&self, tokens: &mut Cursor<'_, '_>) -> Result<Found, Fault>
         requires { Nests self.now.depth (F.pre self.now.inner) (F.post self.now.inner) }
         ensures { Moves tree_view result tokens.new
@@ -156,7 +156,7 @@ impl<F: Fn(Global, u16, Level, &mut Cursor<'_, '_>) -> Result<Found, Fault>> Gra
     }
 
     /// `'{' e,+ '}'`
-    #[tactic(auto, unfolding(crate::specs::Reading::elements, crate::specs::ReadingSteps::read_up_to))]
+    #[tactic(auto, unfolding(crate::specs::code::Reading::elements, crate::specs::code::ReadingSteps::read_up_to))]
     fn bare_relation(&self, tokens: &mut Cursor<'_, '_>) -> Result<Found, Fault>
         requires { Nests self.now.depth (F.pre self.now.inner) (F.post self.now.inner) }
         ensures { Moves tree_view result tokens.new
@@ -169,7 +169,7 @@ impl<F: Fn(Global, u16, Level, &mut Cursor<'_, '_>) -> Result<Found, Fault>> Gra
     }
 
     /// After `RELATION`.
-    #[tactic(auto, unfolding(crate::specs::Reading::relation))]
+    #[tactic(auto, unfolding(crate::specs::code::Reading::relation))]
     fn relation(&self, tokens: &mut Cursor<'_, '_>) -> Result<Found, Fault>
         requires { Nests self.now.depth (F.pre self.now.inner) (F.post self.now.inner) }
         ensures { Moves tree_view result tokens.new
@@ -183,7 +183,7 @@ impl<F: Fn(Global, u16, Level, &mut Cursor<'_, '_>) -> Result<Found, Fault>> Gra
     }
 
     /// After `TUPLE`.
-    #[tactic(auto, unfolding(crate::specs::Reading::tuple))]
+    #[tactic(auto, unfolding(crate::specs::code::Reading::tuple))]
     fn tuple(&self, tokens: &mut Cursor<'_, '_>) -> Result<Found, Fault>
         requires { Nests self.now.depth (F.pre self.now.inner) (F.post self.now.inner) }
         ensures { Moves tree_view result tokens.new
@@ -194,7 +194,7 @@ impl<F: Fn(Global, u16, Level, &mut Cursor<'_, '_>) -> Result<Found, Fault>> Gra
     }
 
     /// After `EXTEND e ADD`.
-    #[tactic(auto, unfolding(crate::specs::Reading::extension_adding))]
+    #[tactic(auto, unfolding(crate::specs::code::Reading::extension_adding))]
     fn extension_adding(&self, operand: Found, tokens: &mut Cursor<'_, '_>) -> Result<Found, Fault>
         requires { Nests self.now.depth (F.pre self.now.inner) (F.post self.now.inner) }
         ensures { Moves tree_view result tokens.new
@@ -206,7 +206,7 @@ impl<F: Fn(Global, u16, Level, &mut Cursor<'_, '_>) -> Result<Found, Fault>> Gra
     }
 
     /// After `EXTEND e :`.
-    #[tactic(auto, unfolding(crate::specs::Reading::extension_setting))]
+    #[tactic(auto, unfolding(crate::specs::code::Reading::extension_setting))]
     fn extension_setting(&self, operand: Found, tokens: &mut Cursor<'_, '_>) -> Result<Found, Fault>
         requires { Nests self.now.depth (F.pre self.now.inner) (F.post self.now.inner) }
         ensures { Moves tree_view result tokens.new
@@ -218,7 +218,7 @@ impl<F: Fn(Global, u16, Level, &mut Cursor<'_, '_>) -> Result<Found, Fault>> Gra
     }
 
     /// After `EXTEND`.
-    #[tactic(auto, unfolding(crate::specs::Reading::extension))]
+    #[tactic(auto, unfolding(crate::specs::code::Reading::extension))]
     fn extension(&self, tokens: &mut Cursor<'_, '_>) -> Result<Found, Fault>
         requires { Nests self.now.depth (F.pre self.now.inner) (F.post self.now.inner) }
         ensures { Moves tree_view result tokens.new
@@ -233,7 +233,7 @@ impl<F: Fn(Global, u16, Level, &mut Cursor<'_, '_>) -> Result<Found, Fault>> Gra
     }
 
     /// After `IF`.
-    #[tactic(auto, unfolding(crate::specs::Reading::choice))]
+    #[tactic(auto, unfolding(crate::specs::code::Reading::choice))]
     fn choice(&self, tokens: &mut Cursor<'_, '_>) -> Result<Found, Fault>
         requires { Nests self.now.depth (F.pre self.now.inner) (F.post self.now.inner) }
         ensures { Moves tree_view result tokens.new
@@ -248,7 +248,7 @@ impl<F: Fn(Global, u16, Level, &mut Cursor<'_, '_>) -> Result<Found, Fault>> Gra
     }
 
     /// After its first word.
-    #[tactic(auto, unfolding(crate::specs::Reading::primary_of_word))]
+    #[tactic(auto, unfolding(crate::specs::code::Reading::primary_of_word))]
     fn primary_of_word(&self, word: Keyword, tokens: &mut Cursor<'_, '_>) -> Result<Found, Fault>
         requires { Nests self.now.depth (F.pre self.now.inner) (F.post self.now.inner) }
         ensures { Moves tree_view result tokens.new
@@ -274,7 +274,7 @@ impl<F: Fn(Global, u16, Level, &mut Cursor<'_, '_>) -> Result<Found, Fault>> Gra
     }
 
     /// An expression that needs no other to be whole.
-    #[tactic(auto, unfolding(crate::specs::Reading::primary, crate::specs::Reading::primary_of_sign, crate::specs::Reading::numeral))]
+    #[tactic(auto, unfolding(crate::specs::code::Reading::primary, crate::specs::code::Reading::primary_of_sign, crate::specs::code::Reading::numeral))]
     pub fn primary(&self, tokens: &mut Cursor<'_, '_>) -> Result<Found, Fault>
         requires { Nests self.now.depth (F.pre self.now.inner) (F.post self.now.inner) }
         ensures { Moves tree_view result tokens.new

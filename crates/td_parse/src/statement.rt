@@ -1,11 +1,14 @@
 //! Statements.
 ghost use Rattle.std.specs.Prelude.{◌≡◌};
-ghost use Rattle.td_parse.specs.code.Parsing.{Moves, Parsed, has_bad, is_bad, or_syntax};
-ghost use Rattle.td_parse.specs.ReadingStatements as reading;
-ghost use Rattle.td_parse.specs.ReadingStatements.{read_statement};
-ghost use Rattle.td_tree.specs.Outcomes.{Answers, Outcome};
-ghost use Rattle.td_tree.specs.TokenLexemes.{lexemes};
-ghost use Rattle.td_tree.specs.Trees as trees;
+ghost use Rattle.std.specs.List.{list_any};
+ghost use Rattle.td_scan.specs.code.Progress.{is_bad_token};
+ghost use Rattle.td_parse.specs.code.Parsing.{Moves, or_syntax};
+ghost use Rattle.td_parse.specs.model.Meanings.{Parsed, has_bad, is_bad};
+ghost use Rattle.td_parse.specs.code.ReadingStatements as reading;
+ghost use Rattle.td_parse.specs.code.ReadingStatements.{read_statement};
+ghost use Rattle.td_tree.specs.model.Outcomes.{Answers, Outcome};
+ghost use Rattle.td_tree.specs.model.TokenLexemes.{lexemes};
+ghost use Rattle.td_tree.specs.model.Trees as trees;
 ghost use Rattle.td_tree.specs.code.TreeViews.{statement_view};
 
 use crate::assignment::{assignments, expression};
@@ -14,6 +17,7 @@ use crate::definition::{constraint_definition, drop, type_definition, variable};
 use crate::steps::{item_closed_by, item_if};
 use std::alloc::Global;
 use td_scan::token::Token;
+use td_scan::upcoming::Upcoming;
 use td_tree::cause::Cause;
 use td_tree::fault::Fault;
 use td_tree::keyword::Keyword;
@@ -21,7 +25,7 @@ use td_tree::statement::Statement;
 use td_tree::token::{Kind, Sign};
 
 /// `TRANSACTION`, after `BEGIN`
-#[tactic(auto, unfolding(crate::specs::ReadingStatements::body_of_word))]
+#[tactic(auto, unfolding(crate::specs::code::ReadingStatements::body_of_word))]
 fn begin(tokens: &mut Cursor<'_, '_>) -> Result<Statement, Fault>
     ensures { Moves statement_view result tokens.new
         (reading.body_of_word Keyword.Begin tokens.old) }
@@ -31,7 +35,7 @@ fn begin(tokens: &mut Cursor<'_, '_>) -> Result<Statement, Fault>
 }
 
 /// A statement without its end.
-#[tactic(auto, unfolding(crate::specs::ReadingStatements::body, crate::specs::ReadingStatements::body_of_word), using(crate::proofs::Beginnings::assignments_alone))]
+#[tactic(auto, unfolding(crate::specs::code::ReadingStatements::body, crate::specs::code::ReadingStatements::body_of_word), using(crate::proofs::Beginnings::assignments_alone))]
 fn body(alloc: Global, tokens: &mut Cursor<'_, '_>) -> Result<Statement, Fault>
     ensures { Moves statement_view result tokens.new (reading.body tokens.old) }
 {
@@ -54,7 +58,7 @@ fn body(alloc: Global, tokens: &mut Cursor<'_, '_>) -> Result<Statement, Fault>
 }
 
 /// A statement before its semicolon, or nothing.
-#[tactic(auto, unfolding(crate::specs::ReadingStatements::read_body))]
+#[tactic(auto, unfolding(crate::specs::code::ReadingStatements::read_body))]
 fn body_or_none(alloc: Global, tokens: &mut Cursor<'_, '_>) -> Result<Statement, Fault>
     ensures { Moves statement_view result tokens.new (reading.read_body tokens.old) }
 {
@@ -65,13 +69,12 @@ fn body_or_none(alloc: Global, tokens: &mut Cursor<'_, '_>) -> Result<Statement,
 }
 
 /// The statement that all the tokens are.
-#[tactic(auto, unfolding(crate::specs::ReadingStatements::read_statement, crate::specs::ReadingSteps::read_up_to))]
-fn whole(alloc: Global, tokens: &[Token<'_>]) -> Result<Statement, Fault>
-    ensures { Answers statement_view result (or_syntax (read_statement (lexemes tokens.now))) }
+#[tactic(auto, unfolding(crate::specs::code::ReadingStatements::read_statement, crate::specs::code::ReadingSteps::read_up_to))]
+fn statement_of_all(alloc: Global, tokens: &mut Cursor<'_, '_>) -> Result<Statement, Fault>
+    ensures { Answers statement_view result (or_syntax (read_statement tokens.old)) }
 {
-    let mut tokens = Cursor::new(alloc, tokens);
-    let statement = body_or_none(alloc, &mut tokens)?;
-    let statement = item_closed_by(statement, Sign::Semicolon, &mut tokens)?;
+    let statement = body_or_none(alloc, tokens)?;
+    let statement = item_closed_by(statement, Sign::Semicolon, tokens)?;
     item_if(statement, tokens.is_empty())
 }
 
@@ -103,5 +106,23 @@ pub fn parse_statement(alloc: Global, tokens: &[Token<'_>]) -> Result<Statement,
     if has_bad(tokens) {
         return Err(Fault::Refused(Cause::Scan));
     }
-    whole(alloc, tokens)
+    let mut tokens = Cursor::new(alloc, tokens);
+    statement_of_all(alloc, &mut tokens)
+}
+
+/// The same of tokens that are read as they are asked for. Whether one of them is bad is known.
+pub fn parse_upcoming(
+    alloc: Global,
+    tokens: Upcoming<'_>,
+    has_bad: bool,
+) -> Result<Statement, Fault>
+    requires { has_bad ≡ list_any is_bad_token tokens }
+    ensures { (o : Outcome trees.Statement) × Parsed tokens.entry o
+        × Answers statement_view result o }
+{
+    if has_bad {
+        return Err(Fault::Refused(Cause::Scan));
+    }
+    let mut tokens = Cursor::of_statement(alloc, tokens);
+    statement_of_all(alloc, &mut tokens)
 }

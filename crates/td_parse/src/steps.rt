@@ -1,7 +1,7 @@
 //! What was read, and what has to follow it.
 ghost use Rattle.td_parse.specs.code.Parsing.{Both, Fits, Keeps};
-ghost use Rattle.td_tree.specs.Lexemes as lexeme;
-ghost use Rattle.td_parse.specs.ReadingSteps.{expect};
+ghost use Rattle.td_tree.specs.model.Lexemes as lexeme;
+ghost use Rattle.td_parse.specs.code.ReadingSteps.{expect};
 
 use crate::cursor::{Cursor, SYNTAX};
 use td_tree::fault::Fault;

@@ -1,13 +1,13 @@
 //! `SUMMARIZE`.
 ghost use Rattle.std.specs.Prelude.{map};
-ghost use Rattle.td_tree.specs.Grammar.{loosest};
+ghost use Rattle.td_tree.specs.model.Grammar.{loosest};
 ghost use Rattle.td_parse.specs.code.FoundSummaries.{summary_view};
 ghost use Rattle.td_parse.specs.code.Nests.{Nests};
 ghost use Rattle.td_parse.specs.code.Parsing.{Moves};
 ghost use Rattle.td_parse.specs.code.Views.{item_view};
-ghost use Rattle.td_parse.specs.Reading as reading;
-ghost use Rattle.td_parse.specs.Reading.{read, summaries_from};
-ghost use Rattle.td_parse.specs.ReadingSteps.{in_parentheses_read, list_by_commas};
+ghost use Rattle.td_parse.specs.code.Reading as reading;
+ghost use Rattle.td_parse.specs.code.Reading.{read, summaries_from};
+ghost use Rattle.td_parse.specs.code.ReadingSteps.{in_parentheses_read, list_by_commas};
 ghost use Rattle.td_tree.specs.code.TreeViews.{tree_view};
 
 use crate::cursor::{Cursor, SYNTAX};
@@ -23,7 +23,7 @@ use td_tree::operator::{Aggregate, Level};
 use td_tree::token::{Kind, Sign};
 
 /// `'(' ')' AS name`, after `COUNT`
-#[tactic(auto, unfolding(crate::specs::Reading::count_summary))]
+#[tactic(auto, unfolding(crate::specs::code::Reading::count_summary))]
 fn count_summary(alloc: Global, tokens: &mut Cursor<'_, '_>) -> Result<FoundSummary, Fault>
     ensures { Moves (λ s. item_view (summary_view s)) result tokens.new
         (reading.count_summary (read 0) 0 tokens.old) }
@@ -35,7 +35,7 @@ fn count_summary(alloc: Global, tokens: &mut Cursor<'_, '_>) -> Result<FoundSumm
 
 impl<F: Fn(Global, u16, Level, &mut Cursor<'_, '_>) -> Result<Found, Fault>> Grammar<F> {
     /// `'(' e ')'`
-    #[tactic(auto, unfolding(crate::specs::ReadingSteps::in_parentheses_read))]
+    #[tactic(auto, unfolding(crate::specs::code::ReadingSteps::in_parentheses_read))]
     pub fn enclosed_expression(&self, tokens: &mut Cursor<'_, '_>) -> Result<Found, Fault>
         requires { Nests self.now.depth (F.pre self.now.inner) (F.post self.now.inner) }
         ensures { Moves tree_view result tokens.new
@@ -46,7 +46,7 @@ impl<F: Fn(Global, u16, Level, &mut Cursor<'_, '_>) -> Result<Found, Fault>> Gra
     }
 
     /// `'(' e ')' AS name`, after `SUM`, `MAX` or `MIN`
-    #[tactic(auto, unfolding(crate::specs::Reading::sum_summary))]
+    #[tactic(auto, unfolding(crate::specs::code::Reading::sum_summary))]
     fn sum_summary(&self, op: Aggregate, tokens: &mut Cursor<'_, '_>) -> Result<FoundSummary, Fault>
         requires { Nests self.now.depth (F.pre self.now.inner) (F.post self.now.inner) }
         ensures { Moves (λ s. item_view (summary_view s)) result tokens.new
@@ -58,7 +58,7 @@ impl<F: Fn(Global, u16, Level, &mut Cursor<'_, '_>) -> Result<Found, Fault>> Gra
     }
 
     /// What is added, after its first word.
-    #[tactic(auto, unfolding(crate::specs::Reading::summary_of_word, crate::specs::Reading::count_summary))]
+    #[tactic(auto, unfolding(crate::specs::code::Reading::summary_of_word, crate::specs::code::Reading::count_summary))]
     fn summary_of_word(
         &self,
         word: Keyword,
@@ -78,7 +78,7 @@ impl<F: Fn(Global, u16, Level, &mut Cursor<'_, '_>) -> Result<Found, Fault>> Gra
     }
 
     /// `COUNT '(' ')' AS name` or `(SUM | MAX | MIN) '(' e ')' AS name`
-    #[tactic(auto, unfolding(crate::specs::Reading::summary))]
+    #[tactic(auto, unfolding(crate::specs::code::Reading::summary))]
     fn summary(&self, tokens: &mut Cursor<'_, '_>) -> Result<FoundSummary, Fault>
         requires { Nests self.now.depth (F.pre self.now.inner) (F.post self.now.inner) }
         ensures { Moves (λ s. item_view (summary_view s)) result tokens.new
@@ -91,7 +91,7 @@ impl<F: Fn(Global, u16, Level, &mut Cursor<'_, '_>) -> Result<Found, Fault>> Gra
     }
 
     /// `item,+`
-    #[tactic(auto, unfolding(crate::specs::ReadingSteps::list_by_commas, crate::specs::ReadingSteps::separated_from))]
+    #[tactic(auto, unfolding(crate::specs::code::ReadingSteps::list_by_commas, crate::specs::code::ReadingSteps::separated_from))]
     fn some_summaries(&self, tokens: &mut Cursor<'_, '_>) -> Result<Summaries, Fault>
         requires { Nests self.now.depth (F.pre self.now.inner) (F.post self.now.inner) }
         ensures { Moves (map item_view) result tokens.new
@@ -109,7 +109,7 @@ impl<F: Fn(Global, u16, Level, &mut Cursor<'_, '_>) -> Result<Found, Fault>> Gra
     }
 
     /// `ADD '(' item,+ ')'`
-    #[tactic(auto, unfolding(crate::specs::Reading::summaries, crate::specs::ReadingSteps::in_parentheses_read, crate::specs::ReadingSteps::read_up_to))]
+    #[tactic(auto, unfolding(crate::specs::code::Reading::summaries, crate::specs::code::ReadingSteps::in_parentheses_read, crate::specs::code::ReadingSteps::read_up_to))]
     fn summaries(&self, tokens: &mut Cursor<'_, '_>) -> Result<Summaries, Fault>
         requires { Nests self.now.depth (F.pre self.now.inner) (F.post self.now.inner) }
         ensures { Moves (λ s. summaries_from (map item_view s)) result tokens.new
@@ -122,7 +122,7 @@ impl<F: Fn(Global, u16, Level, &mut Cursor<'_, '_>) -> Result<Found, Fault>> Gra
     }
 
     /// `'(' e ')' ADD '(' item,+ ')'`, after `SUMMARIZE e PER`
-    #[tactic(auto, unfolding(crate::specs::Reading::summary_per))]
+    #[tactic(auto, unfolding(crate::specs::code::Reading::summary_per))]
     fn summary_per(&self, operand: Found, tokens: &mut Cursor<'_, '_>) -> Result<Found, Fault>
         requires { Nests self.now.depth (F.pre self.now.inner) (F.post self.now.inner) }
         ensures { Moves tree_view result tokens.new
@@ -136,7 +136,7 @@ impl<F: Fn(Global, u16, Level, &mut Cursor<'_, '_>) -> Result<Found, Fault>> Gra
     }
 
     /// `attrs ADD '(' item,+ ')'`, after `SUMMARIZE e BY`
-    #[tactic(auto, unfolding(crate::specs::Reading::summary_by))]
+    #[tactic(auto, unfolding(crate::specs::code::Reading::summary_by))]
     fn summary_by(&self, operand: Found, tokens: &mut Cursor<'_, '_>) -> Result<Found, Fault>
         requires { Nests self.now.depth (F.pre self.now.inner) (F.post self.now.inner) }
         ensures { Moves tree_view result tokens.new
@@ -149,7 +149,7 @@ impl<F: Fn(Global, u16, Level, &mut Cursor<'_, '_>) -> Result<Found, Fault>> Gra
     }
 
     /// After `SUMMARIZE`.
-    #[tactic(auto, unfolding(crate::specs::Reading::summarize_expression))]
+    #[tactic(auto, unfolding(crate::specs::code::Reading::summarize_expression))]
     pub fn summarize_expression(&self, tokens: &mut Cursor<'_, '_>) -> Result<Found, Fault>
         requires { Nests self.now.depth (F.pre self.now.inner) (F.post self.now.inner) }
         ensures { Moves tree_view result tokens.new

@@ -1,13 +1,13 @@
 //! Types and headings.
 ghost use Rattle.std.specs.Prelude.{◌≡◌};
 ghost use Rattle.td_parse.specs.code.Parsing.{Moves};
-ghost use Rattle.td_parse.specs.ReadingSteps.{listed_to, list_by_commas};
-ghost use Rattle.td_parse.specs.ReadingTypes as reading;
-ghost use Rattle.td_parse.specs.ReadingTypes.{read_type};
-ghost use Rattle.td_tree.specs.Trees as trees;
+ghost use Rattle.td_parse.specs.code.ReadingSteps.{listed_to, list_by_commas};
+ghost use Rattle.td_parse.specs.code.ReadingTypes as reading;
+ghost use Rattle.td_parse.specs.code.ReadingTypes.{read_type};
+ghost use Rattle.td_tree.specs.model.Trees as trees;
 ghost use Rattle.td_tree.specs.code.TreeViews.{heading_tree_view, type_tree_view};
 ghost use Rattle.td_parse.specs.code.Views.{attribute_tree_view, attribute_trees_view};
-ghost use Rattle.td_tree.specs.Lexemes.{sign};
+ghost use Rattle.td_tree.specs.model.Lexemes.{sign};
 
 use crate::cursor::{Cursor, SYNTAX};
 use crate::names::name;
@@ -36,7 +36,7 @@ fn relation_type(heading: Vec<AttributeTree>) -> TypeTree
 
 /// A type that is at most so high.
 #[cycle(types)]
-#[tactic(auto, unfolding(crate::specs::ReadingTypes::read_type, crate::specs::ReadingTypes::type_of_first))]
+#[tactic(auto, unfolding(crate::specs::code::ReadingTypes::read_type, crate::specs::code::ReadingTypes::type_of_first))]
 pub fn type_tree(alloc: Global, depth: u16, tokens: &mut Cursor<'_, '_>) -> Result<TypeTree, Fault>
     ensures { Moves type_tree_view result tokens.new (read_type depth tokens.old) }
 {
@@ -52,7 +52,7 @@ pub fn type_tree(alloc: Global, depth: u16, tokens: &mut Cursor<'_, '_>) -> Resu
 
 /// A type after its first word.
 #[cycle(types)]
-#[tactic(auto, unfolding(crate::specs::ReadingTypes::type_of_word))]
+#[tactic(auto, unfolding(crate::specs::code::ReadingTypes::type_of_word))]
 fn type_of_word(
     alloc: Global,
     depth: u16,
@@ -74,7 +74,7 @@ fn type_of_word(
 
 /// `'{' (name type),* '}'`, of types at most so high
 #[cycle(types)]
-#[tactic(auto, unfolding(crate::specs::ReadingTypes::heading, crate::specs::ReadingSteps::listed_to, crate::specs::ReadingSteps::read_up_to), using(crate::proofs::Views::attributes_from_of))]
+#[tactic(auto, unfolding(crate::specs::code::ReadingTypes::heading, crate::specs::code::ReadingSteps::listed_to, crate::specs::code::ReadingSteps::read_up_to), using(crate::proofs::Views::attributes_from_of))]
 fn heading(
     alloc: Global,
     depth: u16,
@@ -93,7 +93,7 @@ fn heading(
 
 /// `(name type),+`, of types at most so high
 #[cycle(types)]
-#[tactic(auto, unfolding(crate::specs::ReadingSteps::list_by_commas, crate::specs::ReadingSteps::separated_from))]
+#[tactic(auto, unfolding(crate::specs::code::ReadingSteps::list_by_commas, crate::specs::code::ReadingSteps::separated_from))]
 pub fn attributes(
     alloc: Global,
     depth: u16,
@@ -115,7 +115,7 @@ pub fn attributes(
 
 /// `name type`, of a type at most so high
 #[cycle(types)]
-#[tactic(auto, unfolding(crate::specs::ReadingTypes::attribute))]
+#[tactic(auto, unfolding(crate::specs::code::ReadingTypes::attribute))]
 fn attribute(alloc: Global, depth: u16, tokens: &mut Cursor<'_, '_>) -> Result<AttributeTree, Fault>
     ensures { Moves attribute_tree_view result tokens.new
         (reading.attribute (read_type depth) tokens.old) }
@@ -126,7 +126,7 @@ fn attribute(alloc: Global, depth: u16, tokens: &mut Cursor<'_, '_>) -> Result<A
 }
 
 /// A heading whose relation type is at most so high.
-#[tactic(auto, unfolding(crate::specs::ReadingTypes::relation_heading))]
+#[tactic(auto, unfolding(crate::specs::code::ReadingTypes::relation_heading))]
 pub fn relation_heading(
     alloc: Global,
     depth: u16,

@@ -2,10 +2,10 @@
 ghost use Rattle.std.specs.Prelude.{◌≡◌, true, if◌then◌else◌, nat_le, IfOk, Some, None};
 ghost use Rattle.std.specs.Rc.{rc_str_bytes};
 ghost use Rattle.std.specs.Prelude.{drop};
-ghost use Rattle.td_tree.specs.Numbers.{decimal_value, numeral_limit};
-ghost use Rattle.td_tree.specs.Pieces.{kind_of};
-ghost use Rattle.td_tree.specs.Symbols.{symbols};
-ghost use Rattle.td_tree.specs.TextTokens.{content, with_quotes_undoubled};
+ghost use Rattle.td_tree.specs.model.Numbers.{decimal_value, numeral_limit};
+ghost use Rattle.td_tree.specs.model.Pieces.{kind_of};
+ghost use Rattle.td_tree.specs.model.Symbols.{symbols};
+ghost use Rattle.td_tree.specs.model.TextTokens.{content, with_quotes_undoubled};
 
 use std::alloc::{AllocError, Global};
 use std::rc::RcStr;

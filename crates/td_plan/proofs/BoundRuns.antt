@@ -3,12 +3,12 @@ use Rattle.std.proofs.Common.{◌≡◌, ◌∙◌, ◌+◌, ◌<◌, ◌≤◌,
 use Rattle.std.proofs.lemmas.List.{at_drop_more}
 use Rattle.std.specs.Prelude.{suc, Option}
 use Rattle.td_eval.proofs.code_lemmas.OpValues.{refused_then}
-use Rattle.td_eval.specs.OperatorValues.{on_tuple}
-use Rattle.td_eval.specs.Worlds.{World}
+use Rattle.td_eval.specs.model.OperatorValues.{on_tuple}
+use Rattle.td_eval.specs.model.Worlds.{World}
 use Rattle.td_plan.proofs.SlotLaws.{agree_below}
 use Rattle.td_plan.specs.declared.plan.step.Step.{Step}
 use Rattle.td_plan.specs.declared.running.memo.Memo.{Memo}
-use Rattle.td_plan.specs.Plans.{PlanTrees, Slots, more, none, plan_where_bound, with_slot}
+use Rattle.td_plan.specs.code.Plans.{PlanTrees, Slots, more, none, plan_where_bound, with_slot}
 use Rattle.td_plan.specs.code.Bindings.{IsEntered, where_in_slot}
 use Rattle.td_plan.specs.code.Hands.{slots_in}
 use Rattle.td_plan.specs.code.Memos.{AgreeBelow, IsMemo, Parts}
@@ -16,10 +16,10 @@ use Rattle.td_plan.specs.code.Runs.{step_value}
 use Rattle.td_plan.specs.code.StepViews.{step_view, steps_view}
 use Rattle.td_tree.specs.declared.fault.Fault.{Fault}
 use Rattle.td_tree.specs.declared.fault.Fault.TheVariants as faults
-use Rattle.td_tree.specs.Outcomes.{Answers, Outcome, Refused, Valued, with_value}
+use Rattle.td_tree.specs.model.Outcomes.{Answers, Outcome, Refused, Valued, with_value}
 use Rattle.td_types.proofs.OutcomeLaws.{valued_is}
 use Rattle.td_value.specs.code.Views.{values_of}
-use Rattle.td_value.specs.Values.{Tuple, Val, boolean, char, integer, relation, tuple, unpack_fields, user}
+use Rattle.td_value.specs.model.Values.{Tuple, Val, boolean, char, integer, relation, tuple, unpack_fields, user}
 
 -- ---- a value that is a tuple, or is none
 

@@ -2,15 +2,15 @@
 use Rattle.std.proofs.Common.{◌≡◌, ◌∙◌, ℕ, Bool, true, false, List, [], ◌∷◌, ap, filter, length, map, refl, suc, sym}
 use Rattle.std.proofs.lemmas.List.Sums.{length-filter}
 use Rattle.std.specs.Prelude.{cond, count_by, nat_eq, pos}
-use Rattle.td_algebra.specs.Operators.{restriction}
+use Rattle.td_algebra.specs.model.Operators.{restriction}
 use Rattle.td_eval.proofs.code_lemmas.OpTuples.{truths_are}
 use Rattle.td_eval.proofs.code_lemmas.OpValues.{relation_unpacked}
-use Rattle.td_eval.specs.OperatorValues.{is_true, measure_value, of_truth, restricted_value, truth_value}
-use Rattle.td_plan.specs.Counted.{number_measured}
+use Rattle.td_eval.specs.model.OperatorValues.{is_true, measure_value, of_truth, restricted_value, truth_value}
+use Rattle.td_plan.specs.code.Counted.{number_measured}
 use Rattle.td_tree.specs.declared.operator.Measure.{Measure}
 use Rattle.td_tree.specs.declared.operator.Measure.TheVariants as measures
-use Rattle.td_tree.specs.Outcomes.{Outcome, Valued, gathered, with_value}
-use Rattle.td_value.specs.Values.{Relation, Tuple, Val, of_number, relation_value}
+use Rattle.td_tree.specs.model.Outcomes.{Outcome, Valued, gathered, with_value}
+use Rattle.td_value.specs.model.Values.{Relation, Tuple, Val, of_number, relation_value}
 
 -- as many elements pass a test as its values are true
 kept_count : {X : Type 0} (q : X → Bool) (xs : List X) → length (filter q xs) ≡ length (filter (λ b. b) (map q xs))

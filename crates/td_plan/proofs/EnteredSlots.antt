@@ -3,10 +3,10 @@ use Rattle.std.proofs.Common.{◌≡◌, ◌∙◌, ◌≤◌, ℕ, Bool, true, 
 use Rattle.std.specs.Prelude.{nat_eq}
 use Rattle.std.proofs.lemmas.Bool.{eq-eqb, eqb-true}
 use Rattle.std.proofs.lemmas.List.{length-map}
-use Rattle.td_plan.specs.Plans.{Slots, with_slot}
-use Rattle.td_plan.specs.PlansOf.{AreSlotsOf}
-use Rattle.td_types.specs.Types.{Heading}
-use Rattle.td_value.specs.Values.{Tuple, Val, heading_of}
+use Rattle.td_plan.specs.code.Plans.{Slots, with_slot}
+use Rattle.td_plan.specs.code.PlansOf.{AreSlotsOf}
+use Rattle.td_types.specs.model.Types.{Heading}
+use Rattle.td_value.specs.model.Values.{Tuple, Val, heading_of}
 use Rattle.td_value.specs.code.Views.{values_of}
 
 -- what is further out stays

@@ -5,19 +5,19 @@ use Rattle.std.specs.List.{Contains}
 use Rattle.std.specs.Option.{option_cmp}
 use Rattle.std.specs.Ordering.{eq_by_cmp}
 use Rattle.std.specs.Cmp.Lexicographic.{same_text}
-use Rattle.td_types.specs.Headings.{are_distinct, has_name, projection}
-use Rattle.td_types.specs.Types.{Heading, same_name, type_at}
+use Rattle.td_types.specs.model.Headings.{are_distinct, has_name, projection}
+use Rattle.td_types.specs.model.Types.{Heading, same_name, type_at}
 use Rattle.td_types.proofs.HeadingLaws.{same_name-itself, type_at-projection}
-use Rattle.td_value.specs.Agreement.{AgreeOn, agree_on}
-use Rattle.td_value.specs.ValueOrder.{value_Decides}
-use Rattle.td_value.specs.Values.{Val, IsRelation, IsTuple, Relation, IsTupleOf, Tuple, heading_of, tuple_names, type_of, value_at, value_cmp}
+use Rattle.td_value.specs.model.Agreement.{AgreeOn, agree_on}
+use Rattle.td_value.specs.code.ValueOrder.{value_Decides}
+use Rattle.td_value.specs.model.Values.{Val, IsRelation, IsTuple, Relation, IsTupleOf, Tuple, heading_of, tuple_names, type_of, value_at, value_cmp}
 use Rattle.td_value.proofs.Agreement.{agreement_of_values}
 use Rattle.td_algebra.proofs.Entries.{has_value, no_value_outside, tuple_distinct, type_at-heading_of}
 use Rattle.td_algebra.proofs.Lists.{contains_first, contains_later}
 use Rattle.td_algebra.proofs.Relations.{member_headed}
-use Rattle.td_body.specs.Bodies.{agreeing}
-use Rattle.td_algebra.specs.Operators.{restriction}
-use Rattle.td_plan.specs.Equalities.{RestrictionAfterLookUp, HasValues, IsPartOn, ValuesAreTold, has_values, is_at}
+use Rattle.td_body.specs.model.Bodies.{agreeing}
+use Rattle.td_algebra.specs.model.Operators.{restriction}
+use Rattle.td_plan.specs.laws.Equalities.{RestrictionAfterLookUp, HasValues, IsPartOn, ValuesAreTold, has_values, is_at}
 
 both : (b c : Bool) → (not b && c) ≡ true → (b ≡ false) × (c ≡ true)
 both true c e = absurd (true≢false (sym e))

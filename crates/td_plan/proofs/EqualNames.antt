@@ -3,29 +3,29 @@ use Rattle.std.proofs.Common.{◌≡◌, ◌∙◌, ap, sym, refl, ℕ, Bool, tr
 use Rattle.std.specs.Prelude.{option_map, if◌then◌else◌}
 use Rattle.std.specs.List.{Contains}
 use Rattle.std.proofs.lemmas.List.Elements.{Contains-append_left, Contains-append_right}
-use Rattle.td_check.specs.OperatorTypes.{aggregate_item, aggregate_type, choice_type, comparison_type, component_type, count_item, extension_type, extracted_type, headed_type, listed_type, measure_type, misfit, mismatch, named_part, operator_type, over_relation, per_heading, postfix_type, prefix_type, selector_type, setting_type, summary_type, tuple_type, restriction_type, known_or}
-use Rattle.td_check.specs.Scopes.{Scope, innermost, known_relvar}
-use Rattle.td_check.specs.StaticTypes.{items_of, named_types, both_types, type_of, type_where_bound, types_of, with_items}
-use Rattle.td_check.specs.WrittenNames.{names_in, names_in_all, names_in_items, names_in_named}
+use Rattle.td_check.specs.model.OperatorTypes.{aggregate_item, aggregate_type, choice_type, comparison_type, component_type, count_item, extension_type, extracted_type, headed_type, listed_type, measure_type, misfit, mismatch, named_part, operator_type, over_relation, per_heading, postfix_type, prefix_type, selector_type, setting_type, summary_type, tuple_type, restriction_type, known_or}
+use Rattle.td_check.specs.model.Scopes.{Scope, innermost, known_relvar}
+use Rattle.td_check.specs.model.StaticTypes.{items_of, named_types, both_types, type_of, type_where_bound, types_of, with_items}
+use Rattle.td_check.specs.laws.WrittenNames.{names_in, names_in_all, names_in_items, names_in_named}
 use Rattle.td_group.specs.declared.aggregates.Agg.TheVariants as asked
 use Rattle.td_tree.specs.declared.cause.Cause.TheVariants as causes
-use Rattle.td_tree.specs.Outcomes.{Outcome, Valued, with_both, with_value}
-use Rattle.td_tree.specs.Trees.{Tree, literal, name, parentheses, prefix, extract, restriction, binary, compare, postfix, select, component, measure, aggregate, relation, headed_relation, tuple, extend, extend_setting, summarize_per, summarize_by, choice, binding, Trees, none, more, NamedTrees, none_named, more_named, Summaries, no_summaries, counted, summed, project}
-use Rattle.td_types.specs.Headings.{has_attribute, has_name}
-use Rattle.td_types.specs.TypeLists.{heading_meant}
-use Rattle.td_types.specs.Types.{Type', Heading, pack, type_at}
-use Rattle.td_types.specs.Types as types
-use Rattle.td_value.specs.Values.{Val, Tuple, heading_of, projected_tuple, value_at}
-use Rattle.td_value.specs.Values as values
+use Rattle.td_tree.specs.model.Outcomes.{Outcome, Valued, with_both, with_value}
+use Rattle.td_tree.specs.model.Trees.{Tree, literal, name, parentheses, prefix, extract, restriction, binary, compare, postfix, select, component, measure, aggregate, relation, headed_relation, tuple, extend, extend_setting, summarize_per, summarize_by, choice, binding, Trees, none, more, NamedTrees, none_named, more_named, Summaries, no_summaries, counted, summed, project}
+use Rattle.td_types.specs.model.Headings.{has_attribute, has_name}
+use Rattle.td_types.specs.model.TypeLists.{heading_meant}
+use Rattle.td_types.specs.model.Types.{Type', Heading, pack, type_at}
+use Rattle.td_types.specs.model.Types as types
+use Rattle.td_value.specs.model.Values.{Val, Tuple, heading_of, projected_tuple, value_at}
+use Rattle.td_value.specs.model.Values as values
 use Rattle.td_value.proofs.Agreement.{value_of_projection}
 use Rattle.td_algebra.proofs.Entries.{no_value_outside, type_at-heading_of}
 use Rattle.td_algebra.proofs.Lists.{contains_first}
 use Rattle.td_algebra.proofs.Relations.{member_headed}
-use Rattle.td_eval.specs.AggregateValues.{aggregated_value, asked_of, summary_attributes, summary_value}
-use Rattle.td_eval.specs.OperatorValues.{comparison_value, component_value, extended_by_settings, extended_value, extracted_value, headed_value, listed_value, measure_value, of_truth, on_relation, on_truth, operator_value, postfix_value, prefix_value, restricted_value, tuple_from}
-use Rattle.td_eval.specs.TreeValues.{argument_values, entry_values, items_in_tuples, value_of, value_where_bound, values_in_tuples}
-use Rattle.td_eval.specs.Worlds.{World, innermost_value, known_outcome, selector_outcome}
-use Rattle.td_plan.specs.EqualitiesOfNames.{NamesAreWhatIsAsked, ValuesDependOnNames}
+use Rattle.td_eval.specs.model.AggregateValues.{aggregated_value, asked_of, summary_attributes, summary_value}
+use Rattle.td_eval.specs.model.OperatorValues.{comparison_value, component_value, extended_by_settings, extended_value, extracted_value, headed_value, listed_value, measure_value, of_truth, on_relation, on_truth, operator_value, postfix_value, prefix_value, restricted_value, tuple_from}
+use Rattle.td_eval.specs.model.TreeValues.{argument_values, entry_values, items_in_tuples, value_of, value_where_bound, values_in_tuples}
+use Rattle.td_eval.specs.model.Worlds.{World, innermost_value, known_outcome, selector_outcome}
+use Rattle.td_plan.specs.laws.EqualitiesOfNames.{NamesAreWhatIsAsked, ValuesDependOnNames}
 
 -- ---- names of parts
 

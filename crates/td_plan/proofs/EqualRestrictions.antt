@@ -1,13 +1,13 @@
 -- Restrictions of joins and products.
 use Rattle.std.proofs.Common.{◌∙◌, ap, sym, refl, subst}
-use Rattle.td_value.specs.Values.{projected_tuple}
+use Rattle.td_value.specs.model.Values.{projected_tuple}
 use Rattle.td_value.proofs.Members.{by_members}
-use Rattle.td_algebra.specs.Operators.{join, relation_names, restriction}
+use Rattle.td_algebra.specs.model.Operators.{join, relation_names, restriction}
 use Rattle.td_algebra.proofs.Joined.{apart_agree, product_join}
 use Rattle.td_algebra.proofs.JoinMembers.{IsRelation-join, join_members}
 use Rattle.td_algebra.proofs.Lists.{contains_filter}
 use Rattle.td_algebra.proofs.Relations.{IsRelation-restriction, member_headed}
-use Rattle.td_plan.specs.Equalities.{AsksOnlyOf, RestrictionOfJoinOnLeft, RestrictionOfJoinOnRight, RestrictionOfProductOnLeft, RestrictionOfProductOnRight}
+use Rattle.td_plan.specs.laws.Equalities.{AsksOnlyOf, RestrictionOfJoinOnLeft, RestrictionOfJoinOnRight, RestrictionOfProductOnLeft, RestrictionOfProductOnRight}
 
 pub join_restricted_left : RestrictionOfJoinOnLeft
 join_restricted_left p r s j asked =

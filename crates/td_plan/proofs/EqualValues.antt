@@ -3,27 +3,27 @@ use Rattle.std.proofs.Common.{true≢false, ◌≡◌, ◌∙◌, ◌⊎◌, inl
 use Rattle.std.specs.Prelude.{not}
 use Rattle.std.specs.List.{Contains}
 use Rattle.std.specs.Ordering.{eq_by_cmp}
-use Rattle.td_tree.specs.Outcomes.{Outcome, Valued, Refused, gathered, with_both, with_value}
-use Rattle.td_check.specs.OperatorTypes.{equality_type, same_heading}
-use Rattle.td_types.specs.Headings.{agree, have_no_common}
-use Rattle.td_types.specs.TypeOrder.{heading_eq-Decides}
-use Rattle.td_types.specs.Types.{Heading, Type', attribute_names}
-use Rattle.td_value.specs.Agreement.{agree_on}
-use Rattle.td_value.specs.Sets.{has}
-use Rattle.td_value.specs.ValueOrder.{value_Decides}
-use Rattle.td_value.specs.Values.{Val, boolean, integer, char, relation_value, user, tuple, relation, Relation, Tuple, IsRelation, projected_tuple, tuple_cmp, type_of, value_cmp}
+use Rattle.td_tree.specs.model.Outcomes.{Outcome, Valued, Refused, gathered, with_both, with_value}
+use Rattle.td_check.specs.model.OperatorTypes.{equality_type, same_heading}
+use Rattle.td_types.specs.model.Headings.{agree, have_no_common}
+use Rattle.td_types.specs.code.TypeOrder.{heading_eq-Decides}
+use Rattle.td_types.specs.model.Types.{Heading, Type', attribute_names}
+use Rattle.td_value.specs.model.Agreement.{agree_on}
+use Rattle.td_value.specs.model.Sets.{has}
+use Rattle.td_value.specs.code.ValueOrder.{value_Decides}
+use Rattle.td_value.specs.model.Values.{Val, boolean, integer, char, relation_value, user, tuple, relation, Relation, Tuple, IsRelation, projected_tuple, tuple_cmp, type_of, value_cmp}
 use Rattle.td_value.proofs.Members.{joined_members}
-use Rattle.td_algebra.specs.Operators.{difference, intersection, join, product, relation_names, restriction, union}
+use Rattle.td_algebra.specs.model.Operators.{difference, intersection, join, product, relation_names, restriction, union}
 use Rattle.td_algebra.proofs.JoinMembers.{IsRelation-join, join_members}
 use Rattle.td_algebra.proofs.Joined.{apart_agree, product_join}
 use Rattle.td_algebra.proofs.Lists.{contains_filter, contains_first, contains_later}
 use Rattle.td_algebra.proofs.Relations.{member_headed}
 use Rattle.td_algebra.proofs.SetEqualities.{restriction_of_difference, restriction_of_intersection, restriction_of_union}
-use Rattle.td_body.specs.Bodies.{agreeing}
+use Rattle.td_body.specs.model.Bodies.{agreeing}
 use Rattle.td_eval.proofs.code_lemmas.OpValues.{relation_unpacked}
-use Rattle.td_plan.specs.Equalities.{AsksOnlyOf}
-use Rattle.td_plan.specs.EqualitiesOfValues.{AndIsOfBoth, EqualityIsOfOneValue, Gives, IsAnsweredBy, IsHeadedAndAnswered, IsTotalIn, TotalConditionsRestrict, WhereAfterLookUp, WhereOfIntersectOnLeft, WhereOfJoinOnLeft, WhereOfJoinOnRight, WhereOfMinus, WhereOfTimesOnLeft, WhereOfTimesOnRight, WhereOfUnion, where_value}
-use Rattle.td_eval.specs.OperatorValues.{is_true, of_relation, of_truth, on_relation, on_relations, relation_where, restricted_value, truth_value}
+use Rattle.td_plan.specs.laws.Equalities.{AsksOnlyOf}
+use Rattle.td_plan.specs.laws.EqualitiesOfValues.{AndIsOfBoth, EqualityIsOfOneValue, Gives, IsAnsweredBy, IsHeadedAndAnswered, IsTotalIn, TotalConditionsRestrict, WhereAfterLookUp, WhereOfIntersectOnLeft, WhereOfJoinOnLeft, WhereOfJoinOnRight, WhereOfMinus, WhereOfTimesOnLeft, WhereOfTimesOnRight, WhereOfUnion, where_value}
+use Rattle.td_eval.specs.model.OperatorValues.{is_true, of_relation, of_truth, on_relation, on_relations, relation_where, restricted_value, truth_value}
 use Rattle.td_plan.proofs.EqualLookUps.{restricted_after_look_up}
 use Rattle.td_plan.proofs.EqualRestrictions.{join_restricted_left, join_restricted_right, product_restricted_left, product_restricted_right}
 

@@ -5,7 +5,7 @@ use Rattle.std.proofs.lemmas.List.{map-append}
 use Rattle.std.specs.List.{AllByRecursion, Contains, slice_get}
 use Rattle.td_algebra.proofs.Lists.{contains_cases, contains_none}
 use Rattle.td_eval.proofs.code_lemmas.KeepsGathered.{all_from_members, member_from_all}
-use Rattle.td_types.specs.Types.{Heading, Type', attribute_names}
+use Rattle.td_types.specs.model.Types.{Heading, Type', attribute_names}
 
 -- one more of the list
 pub one_more_among : {X : Type 0} (xs ys zs : List X) (x : X) → ys ≡ xs ++ (x ∷ []) → ((y : X) → Contains xs y → Contains zs y) → Contains zs x

@@ -4,33 +4,33 @@ use Rattle.std.specs.Cmp.Lexicographic.{same_text}
 use Rattle.std.specs.List.{list_any}
 use Rattle.std.specs.Prelude.{is_some, option_map}
 use Rattle.td_algebra.proofs.Entries.{type_at-heading_of}
-use Rattle.td_check.specs.CannotFail.{cannot_fail}
-use Rattle.td_check.specs.Scopes.{Scope}
-use Rattle.td_check.specs.StaticTypes.{type_of}
+use Rattle.td_check.specs.laws.CannotFail.{cannot_fail}
+use Rattle.td_check.specs.model.Scopes.{Scope}
+use Rattle.td_check.specs.model.StaticTypes.{type_of}
 use Rattle.td_eval.proofs.law_lemmas.UnfailingTrees.{unfailing_expressions_have_values}
-use Rattle.td_eval.specs.OperatorValues.{comparison_value, of_truth}
-use Rattle.td_eval.specs.TreeValues.{value_of}
-use Rattle.td_eval.specs.Worlds.{World, innermost_value, known_outcome, with_tuples}
+use Rattle.td_eval.specs.model.OperatorValues.{comparison_value, of_truth}
+use Rattle.td_eval.specs.model.TreeValues.{value_of}
+use Rattle.td_eval.specs.model.Worlds.{World, innermost_value, known_outcome, with_tuples}
 use Rattle.td_plan.proofs.EqualNames.{values_depend_on_names}
 use Rattle.td_plan.proofs.EqualValues.{and_of_both, equality_of_one}
 use Rattle.td_plan.specs.declared.rewriting.fixed.FixedValue.{FixedValue}
-use Rattle.td_plan.specs.EqualitiesOfNames.{NamesOnly}
-use Rattle.td_plan.specs.Fixing.{AreOneWhere, MayFix}
-use Rattle.td_plan.specs.Narrowing.{AreFixed, Implies, IsFixedTo}
-use Rattle.td_plan.specs.Plans.{PlanTree}
-use Rattle.td_plan.specs.PlansOf.{IsPlanOfTyped, outermost}
+use Rattle.td_plan.specs.laws.EqualitiesOfNames.{NamesOnly}
+use Rattle.td_plan.specs.code.Fixing.{AreOneWhere, MayFix}
+use Rattle.td_plan.specs.code.Narrowing.{AreFixed, Implies, IsFixedTo}
+use Rattle.td_plan.specs.code.Plans.{PlanTree}
+use Rattle.td_plan.specs.code.PlansOf.{IsPlanOfTyped, outermost}
 use Rattle.td_plan.specs.code.StepViews.{step_view}
 use Rattle.td_tree.specs.declared.operator.Comparison.TheVariants as comparisons
 use Rattle.td_tree.specs.declared.operator.Operator.TheVariants as operators
-use Rattle.td_tree.specs.Outcomes.{Outcome, Valued, Refused, with_both}
-use Rattle.td_tree.specs.Trees as trees
-use Rattle.td_tree.specs.Trees.{Tree}
-use Rattle.td_tree.specs.WrittenTrees.{IsWritten}
+use Rattle.td_tree.specs.model.Outcomes.{Outcome, Valued, Refused, with_both}
+use Rattle.td_tree.specs.model.Trees as trees
+use Rattle.td_tree.specs.model.Trees.{Tree}
+use Rattle.td_tree.specs.model.WrittenTrees.{IsWritten}
 use Rattle.td_types.proofs.OutcomeLaws.{valued_is}
-use Rattle.td_types.specs.Headings.{has_attribute, has_name}
-use Rattle.td_types.specs.Types.{Heading, Type', same_name, type_at}
-use Rattle.td_value.specs.Values.{Tuple, Val, heading_of, value_at}
-use Rattle.td_value.specs.Values as values
+use Rattle.td_types.specs.model.Headings.{has_attribute, has_name}
+use Rattle.td_types.specs.model.Types.{Heading, Type', same_name, type_at}
+use Rattle.td_value.specs.model.Values.{Tuple, Val, heading_of, value_at}
+use Rattle.td_value.specs.model.Values as values
 
 -- ---- tests
 

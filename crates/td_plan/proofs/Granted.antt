@@ -4,8 +4,8 @@ use Rattle.std.specs.Global.{Vec}
 use Rattle.std.specs.Prelude.{IfOk, IfSome, Result, Ok, Err}
 use Rattle.std.specs.Result.{result_ok}
 use Rattle.td_plan.specs.code.Quick.{AreInRows, AreQuick}
-use Rattle.td_tree.specs.Outcomes.{Outcome}
-use Rattle.td_value.specs.Values.{Tuple, Val}
+use Rattle.td_tree.specs.model.Outcomes.{Outcome}
+use Rattle.td_value.specs.model.Values.{Tuple, Val}
 
 pub granted : {T E : Type 0} (r : Result T E) (x : T) (P : T → Type 0) → Some x ≡ result_ok r → IfOk r P → P x
 granted (Ok y) x P is p = subst P (let e : y ≡ x = cc in e) p

@@ -4,9 +4,9 @@ use Rattle.std.proofs.lemmas.List.{append-nil, reverse-append}
 use Rattle.std.specs.Borrow.{Bor}
 use Rattle.std.specs.List.{slice_get}
 use Rattle.td_plan.specs.code.Hands.{cells_lent, slots_lent}
-use Rattle.td_plan.specs.Plans.{Slots}
-use Rattle.td_plan.specs.PlansOf.{AreSlotsOf}
-use Rattle.td_value.specs.Values.{Tuple}
+use Rattle.td_plan.specs.code.Plans.{Slots}
+use Rattle.td_plan.specs.code.PlansOf.{AreSlotsOf}
+use Rattle.td_value.specs.model.Values.{Tuple}
 
 -- so are those from a place on, before others
 slots_from : (ts : List (Bor Tuple)) (rest : List Tuple) (s : Slots) → ((j n : ℕ) → n ≡ length rest + j → s n ≡ cells_lent (slice_get ts j)) → AreSlotsOf rest s

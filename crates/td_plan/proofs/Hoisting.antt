@@ -2,20 +2,20 @@
 use Rattle.std.proofs.Common.{◌≡◌, ◌∙◌, ◌⊎◌, inl, inr, ◌<◌, ◌≤◌, ℕ, suc, List, [], Bool, true, false, ap, arith, refl, subst, sym, if◌then◌else◌}
 use Rattle.std.proofs.lemmas.Bool.{eqb-true, lt-ltb}
 use Rattle.std.specs.Prelude.{nat_eq}
-use Rattle.td_eval.specs.OperatorValues.{on_tuple}
-use Rattle.td_eval.specs.Worlds.{World}
+use Rattle.td_eval.specs.model.OperatorValues.{on_tuple}
+use Rattle.td_eval.specs.model.Worlds.{World}
 use Rattle.td_plan.proofs.SlotLaws.{slot_here, slot_other}
 use Rattle.td_plan.specs.declared.plan.step.Step.{Step}
 use Rattle.td_plan.specs.declared.running.hand.Inside.{Inside}
 use Rattle.td_plan.specs.declared.running.memo.Memo.{Memo}
-use Rattle.td_plan.specs.Plans.{PlanTree, PlanTrees, Slots, bound, more, none, plan_value, plan_values, plan_where_bound, slots_before, with_slot}
+use Rattle.td_plan.specs.code.Plans.{PlanTree, PlanTrees, Slots, bound, more, none, plan_value, plan_values, plan_where_bound, slots_before, with_slot}
 use Rattle.td_plan.specs.code.Bindings.{IsBehind, IsHoisted}
 use Rattle.td_plan.specs.code.Hands.{slots_in}
 use Rattle.td_plan.specs.code.Memos.{AgreeBelow, AgreeBeside, AreWithinReach, IsMemoBelow, IsReadyBelow, IsSound, KeepsBelow, Parts}
 use Rattle.td_plan.specs.code.QuickInside.{value_inside}
-use Rattle.td_tree.specs.Outcomes.{Outcome, with_value}
+use Rattle.td_tree.specs.model.Outcomes.{Outcome, with_value}
 use Rattle.td_value.specs.code.Views.{values_of}
-use Rattle.td_value.specs.Values.{Tuple, Val}
+use Rattle.td_value.specs.model.Values.{Tuple, Val}
 
 -- ---- two slots
 

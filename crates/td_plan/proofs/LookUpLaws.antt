@@ -1,17 +1,17 @@
 -- What a look-up finds.
 use Rattle.std.proofs.Common.{◌≡◌, ◌∙◌, ℕ, List, Option, Some, None, ap, option_map, sym}
 use Rattle.std.specs.Prelude.{IfSome}
-use Rattle.td_body.specs.Bodies.{agreeing}
-use Rattle.td_catalog.specs.Database.{BaseRelvar, Database, base_named}
+use Rattle.td_body.specs.model.Bodies.{agreeing}
+use Rattle.td_catalog.specs.model.Database.{BaseRelvar, Database, base_named}
 use Rattle.td_eval.proofs.code_lemmas.OpValues.{relation_unpacked}
 use Rattle.td_eval.proofs.code_lemmas.WorldParts.{base_value}
-use Rattle.td_eval.specs.DatabaseWorlds.{world_of}
-use Rattle.td_eval.specs.OperatorValues.{of_relation, on_tuple}
-use Rattle.td_eval.specs.Worlds.{World, known_outcome}
-use Rattle.td_plan.specs.Plans.{agreeing_value}
-use Rattle.td_tree.specs.Outcomes.{Outcome, Valued}
+use Rattle.td_eval.specs.model.DatabaseWorlds.{world_of}
+use Rattle.td_eval.specs.model.OperatorValues.{of_relation, on_tuple}
+use Rattle.td_eval.specs.model.Worlds.{World, known_outcome}
+use Rattle.td_plan.specs.code.Plans.{agreeing_value}
+use Rattle.td_tree.specs.model.Outcomes.{Outcome, Valued}
 use Rattle.td_types.proofs.OutcomeLaws.{valued_is}
-use Rattle.td_value.specs.Values.{Relation, Tuple, Val, boolean, char, integer, relation, tuple, user}
+use Rattle.td_value.specs.model.Values.{Relation, Tuple, Val, boolean, char, integer, relation, tuple, user}
 
 -- what follows of the tuple that a value is
 pub tupled : {A : Type 0} (v : Val) (t : Tuple) (f : Tuple → Outcome A) → on_tuple v Valued ≡ Valued t → on_tuple v f ≡ f t

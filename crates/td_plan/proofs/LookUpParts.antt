@@ -6,30 +6,30 @@ use Rattle.std.specs.List.Sorted.{IsStrictlySortedBy}
 use Rattle.std.specs.Prelude.{if◌then◌else◌, is_some}
 use Rattle.std.proofs.lemmas.List.Sorted.{IsPermutation-refl}
 use Rattle.td_algebra.proofs.Entries.{ascending_distinct, names-heading}
-use Rattle.td_check.specs.Scopes.{Scope}
-use Rattle.td_eval.specs.OperatorValues.{of_truth, tuple_from}
-use Rattle.td_eval.specs.TreeValues.{value_of}
-use Rattle.td_eval.specs.UnfailingValues.{GivesValues}
-use Rattle.td_eval.specs.ValueTypes.{IsTypedTuple}
-use Rattle.td_eval.specs.Worlds.{World}
+use Rattle.td_check.specs.model.Scopes.{Scope}
+use Rattle.td_eval.specs.model.OperatorValues.{of_truth, tuple_from}
+use Rattle.td_eval.specs.model.TreeValues.{value_of}
+use Rattle.td_eval.specs.laws.UnfailingValues.{GivesValues}
+use Rattle.td_eval.specs.laws.ValueTypes.{IsTypedTuple}
+use Rattle.td_eval.specs.model.Worlds.{World}
 use Rattle.td_plan.proofs.EqualLookUps.{there_value, values_told}
 use Rattle.td_plan.specs.declared.rewriting.fixed.FixedValue.{FixedValue}
-use Rattle.td_plan.specs.Equalities.{HasValues, has_values}
-use Rattle.td_plan.specs.Narrowing.{AreFixed, IsFixedAt}
-use Rattle.td_plan.specs.Plans as plans
-use Rattle.td_plan.specs.Plans.{PlanTrees, Slots, plan_value, plan_values}
-use Rattle.td_plan.specs.PlansOf.{AreInHand, AreSlotsOf, outermost}
+use Rattle.td_plan.specs.laws.Equalities.{HasValues, has_values}
+use Rattle.td_plan.specs.code.Narrowing.{AreFixed, IsFixedAt}
+use Rattle.td_plan.specs.code.Plans as plans
+use Rattle.td_plan.specs.code.Plans.{PlanTrees, Slots, plan_value, plan_values}
+use Rattle.td_plan.specs.code.PlansOf.{AreInHand, AreSlotsOf, outermost}
 use Rattle.td_plan.specs.code.StepViews.{steps_view}
-use Rattle.td_tree.specs.Names.{IsName}
-use Rattle.td_tree.specs.Outcomes.{Valued, gathered, with_both, with_value}
-use Rattle.td_tree.specs.Trees.{Tree}
+use Rattle.td_tree.specs.model.Names.{IsName}
+use Rattle.td_tree.specs.model.Outcomes.{Valued, gathered, with_both, with_value}
+use Rattle.td_tree.specs.model.Trees.{Tree}
 use Rattle.td_types.proofs.HeadingLaws.{IsAscending-projection, ascending_from_heading, attribute_from_heading, has_attribute-names, name_cmp, type_at-projection, types_determine_heading}
-use Rattle.td_types.specs.Headings.{has_name, projection}
-use Rattle.td_types.specs.Types.{Heading, IsHeading, Type', attribute_names, pack, same_name, type_at}
+use Rattle.td_types.specs.model.Headings.{has_name, projection}
+use Rattle.td_types.specs.model.Types.{Heading, IsHeading, Type', attribute_names, pack, same_name, type_at}
 use Rattle.td_value.proofs.KnownValues.{has_its_type}
 use Rattle.td_value.proofs.Maps.{sorted_is_tuple_of}
 use Rattle.td_value.proofs.Zips.{IsTuple-from}
-use Rattle.td_value.specs.Values.{AreFields, IsTuple, IsValue, Tuple, Val, heading_of, pack_fields, tuple_names, tuple_value, type_of}
+use Rattle.td_value.specs.model.Values.{AreFields, IsTuple, IsValue, Tuple, Val, heading_of, pack_fields, tuple_names, tuple_value, type_of}
 
 -- the names of fixed attributes, and the plans of their values
 abbrev pub fixed_names : List FixedValue → List (List ℕ)

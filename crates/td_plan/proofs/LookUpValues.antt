@@ -1,49 +1,48 @@
 -- A look-up by a key that a condition fixes narrows what WHERE by the condition is asked of.
 use Rattle.std.proofs.Common.{◌≡◌, ◌∙◌, ℕ, true, List, ◌∷◌, Option, None, Some, ap, option_map, refl, subst, sym}
 use Rattle.std.specs.Prelude.{IsTrue}
-use Rattle.td_body.specs.Bodies.{agreeing}
-use Rattle.td_check.specs.CannotFail.{cannot_fail}
-use Rattle.td_check.specs.OperatorTypes.{known_or, over_relation, restriction_type, same_type}
-use Rattle.td_check.specs.Scopes.{KnownRelvar, Scope, entered_with, innermost, known_relvar}
-use Rattle.td_check.specs.StaticTypes.{name_type, type_of}
+use Rattle.td_body.specs.model.Bodies.{agreeing}
+use Rattle.td_check.specs.laws.CannotFail.{cannot_fail}
+use Rattle.td_check.specs.model.OperatorTypes.{known_or, over_relation, restriction_type, same_type}
+use Rattle.td_check.specs.model.Scopes.{KnownRelvar, Scope, entered_with, innermost, known_relvar}
+use Rattle.td_check.specs.model.StaticTypes.{name_type, type_of}
 use Rattle.td_eval.proofs.code_lemmas.KeepsOperators.{typed_restriction}
 use Rattle.td_eval.proofs.code_lemmas.KeepsRelations.{typed_from_value, value_from_typed}
 use Rattle.td_eval.proofs.code_lemmas.OpValues.{relation_unpacked, tuple_unpacked}
 use Rattle.td_eval.proofs.code_lemmas.TypedRows.{parts_typed, rows_typed}
 use Rattle.td_eval.proofs.code_lemmas.TypedTrees.{innermost_typed}
 use Rattle.td_eval.proofs.code_lemmas.TypedValues.{rows_of, type_is}
-use Rattle.td_eval.specs.OperatorValues.{of_relation, on_relation}
-use Rattle.td_eval.specs.TreeNumbers.{HasNumbers}
-use Rattle.td_eval.specs.TreeValues.{value_of}
-use Rattle.td_eval.specs.UnfailingValues.{GivesValues}
-use Rattle.td_eval.specs.ValueTypes.{IsOfType, KeepsType}
-use Rattle.td_eval.specs.Worlds.{World, innermost_value, known_outcome, with_tuples}
+use Rattle.td_eval.specs.model.OperatorValues.{of_relation, on_relation}
+use Rattle.td_eval.specs.laws.TreeNumbers.{HasNumbers}
+use Rattle.td_eval.specs.model.TreeValues.{value_of}
+use Rattle.td_eval.specs.laws.UnfailingValues.{GivesValues}
+use Rattle.td_eval.specs.laws.ValueTypes.{IsOfType, KeepsType}
+use Rattle.td_eval.specs.model.Worlds.{World, innermost_value, known_outcome, with_tuples}
 use Rattle.td_plan.proofs.EqualValues.{where_after_look_up}
 use Rattle.td_plan.proofs.LookUpParts.{entries_heading, entries_tuple, fixed_entries, fixed_names, fixed_plans, fixed_values_hold, part_found, part_value}
 use Rattle.td_plan.proofs.TotalConditions.{unfailing_conditions_are_total}
 use Rattle.td_plan.specs.declared.rewriting.fixed.FixedValue.{FixedValue}
-use Rattle.td_plan.specs.EqualitiesOfValues.{IsTotalIn, where_value}
-use Rattle.td_plan.specs.LookUps.{IsBase, MeansName}
-use Rattle.td_plan.specs.Narrowing.{AreFixed, Narrows}
-use Rattle.td_plan.specs.Plans as plans
-use Rattle.td_plan.specs.Plans.{looked_up}
-use Rattle.td_plan.specs.PlansOf.{AreInHand, outermost}
+use Rattle.td_plan.specs.laws.EqualitiesOfValues.{IsTotalIn, where_value}
+use Rattle.td_plan.specs.code.LookUps.{IsBase, MeansName}
+use Rattle.td_plan.specs.code.Narrowing.{AreFixed, Narrows}
+use Rattle.td_plan.specs.code.Plans as plans
+use Rattle.td_plan.specs.code.Plans.{looked_up}
+use Rattle.td_plan.specs.code.PlansOf.{AreInHand, outermost}
 use Rattle.td_tree.specs.declared.cause.Cause.TheVariants as causes
-use Rattle.td_tree.specs.Outcomes.{Outcome, Valued, with_value}
-use Rattle.td_tree.specs.Trees as trees
-use Rattle.td_tree.specs.Trees.{Tree}
-use Rattle.td_tree.specs.WrittenTrees.{IsWritten}
+use Rattle.td_tree.specs.model.Outcomes.{Outcome, Valued, with_value}
+use Rattle.td_tree.specs.model.Trees as trees
+use Rattle.td_tree.specs.model.Trees.{Tree}
+use Rattle.td_tree.specs.model.WrittenTrees.{IsWritten}
 use Rattle.td_types.proofs.OutcomeLaws.{value_of_test, value_of_with, valued_is}
-use Rattle.td_types.specs.Headings.{projection}
+use Rattle.td_types.specs.model.Headings.{projection}
 use Rattle.td_types.specs.code.TypeCode.{unpack_pack}
-use Rattle.td_types.specs.TypeLists.{DeclaredType}
-use Rattle.td_types.specs.Types as types
-use Rattle.td_types.specs.Types.{Heading, IsHeading, Type', attribute_names, pack, unpack}
+use Rattle.td_types.specs.model.TypeLists.{DeclaredType}
+use Rattle.td_types.specs.model.Types as types
+use Rattle.td_types.specs.model.Types.{Heading, IsHeading, Type', attribute_names, pack, unpack}
 use Rattle.td_value.proofs.Packed.{pack_unpack_rows}
-use Rattle.td_value.specs.Agreement.{agree_on}
-use Rattle.td_value.specs.Values.{Relation, Tuple, Val, relation_value, unpack_rows}
-use Rattle.td_value.specs.Values as values
-use Rattle.td_value.specs.code.Views.{relation_view}
+use Rattle.td_value.specs.model.Agreement.{agree_on}
+use Rattle.td_value.specs.model.Values.{Relation, Tuple, Val, relation_value, unpack_rows, relation_view}
+use Rattle.td_value.specs.model.Values as values
 
 -- ---- the value of a base relvar
 

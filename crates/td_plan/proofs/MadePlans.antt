@@ -5,24 +5,24 @@ use Rattle.std.proofs.lemmas.List.{length-map}
 use Rattle.std.specs.declared.alloc.AllocError.{AllocError}
 use Rattle.std.specs.Prelude.{IfOk, IsOkAnd, IsTrue, Result, Ok, Err}
 use Rattle.td_eval.proofs.code_lemmas.OpValues.{relation_unpacked}
-use Rattle.td_eval.specs.OperatorValues.{of_relation, on_relation, set_value}
-use Rattle.td_eval.specs.TreeValues.{values_in_tuples}
-use Rattle.td_eval.specs.Worlds.{World}
+use Rattle.td_eval.specs.model.OperatorValues.{of_relation, on_relation, set_value}
+use Rattle.td_eval.specs.model.TreeValues.{values_in_tuples}
+use Rattle.td_eval.specs.model.Worlds.{World}
 use Rattle.td_plan.specs.declared.plan.step.Step.{Step}
 use Rattle.td_plan.proofs.PlannedLists.{parts_are}
-use Rattle.td_plan.specs.Plans.{PlanTree, extension_of}
+use Rattle.td_plan.specs.code.Plans.{PlanTree, extension_of}
 use Rattle.td_plan.specs.code.PlanViews.{PlanValue, plan_view}
 use Rattle.td_plan.specs.code.PlannedParts.{in_named, part_tree}
 use Rattle.td_plan.specs.code.StepViews.{step_view}
 use Rattle.td_tree.specs.declared.expression.NamedExpr.{NamedExpr}
-use Rattle.td_tree.specs.Outcomes.{Outcome, Refused, Valued, with_value}
+use Rattle.td_tree.specs.model.Outcomes.{Outcome, Refused, Valued, with_value}
 use Rattle.td_tree.specs.code.TreeViews.{named_view}
-use Rattle.td_tree.specs.Trees.{NamedTrees}
-use Rattle.td_tree.specs.Trees as trees
+use Rattle.td_tree.specs.model.Trees.{NamedTrees}
+use Rattle.td_tree.specs.model.Trees as trees
 use Rattle.td_types.proofs.OutcomeLaws.{valued_is}
-use Rattle.td_types.specs.Headings.{are_distinct}
-use Rattle.td_types.specs.Types.{Attribute, attribute_names}
-use Rattle.td_value.specs.Values.{Relation, Tuple, Val, relation_value}
+use Rattle.td_types.specs.model.Headings.{are_distinct}
+use Rattle.td_types.specs.model.Types.{Attribute, attribute_names}
+use Rattle.td_value.specs.model.Values.{Relation, Tuple, Val, relation_value}
 
 -- what is said of the step is said of the plan
 pub planned_by : (P : PlanTree → Type 0) (made : Result Step AllocError) (result : Result PlanValue AllocError)

@@ -16,30 +16,30 @@ use Rattle.std.specs.declared.cmp.Ordering.{Ordering}
 use Rattle.std.specs.declared.cmp.Ordering.TheVariants.{Less, Equal, Greater}
 use Rattle.std.specs.Prelude.{◌||◌, ◌-◌, ◌⊎◌, if◌then◌else◌}
 use Rattle.std.proofs.Math.Logic.{inl, inr}
-use Rattle.td_check.specs.OperatorTypes.{same_heading}
-use Rattle.td_eval.specs.OperatorValues.{comparison_value, tuple_from}
+use Rattle.td_check.specs.model.OperatorTypes.{same_heading}
+use Rattle.td_eval.specs.model.OperatorValues.{comparison_value, tuple_from}
 use Rattle.std.specs.Global.{Vec}
 use Rattle.std.specs.Prelude.{IfSome, Option, Some, None}
-use Rattle.td_eval.specs.Worlds.{World}
+use Rattle.td_eval.specs.model.Worlds.{World}
 use Rattle.td_plan.proofs.QuickRows.{of_one}
 use Rattle.td_plan.specs.declared.plan.step.Step.{Step}
 use Rattle.td_plan.specs.declared.running.hand.Inside.{Inside}
-use Rattle.td_plan.specs.Plans as plans
-use Rattle.td_plan.specs.Plans.{plan_value, value_or}
+use Rattle.td_plan.specs.code.Plans as plans
+use Rattle.td_plan.specs.code.Plans.{plan_value, value_or}
 use Rattle.td_plan.specs.code.Hands.{slots_inside}
 use Rattle.td_plan.specs.code.Memberships.{AreAllBelow, tuple_inside}
 use Rattle.td_plan.specs.code.Quick.{AreInRows, AreQuick}
 use Rattle.td_plan.specs.code.QuickInside.{value_inside}
 use Rattle.td_plan.specs.code.StepViews.{step_view, steps_view}
 use Rattle.td_tree.specs.declared.operator.Comparison.TheVariants as comparisons
-use Rattle.td_tree.specs.Outcomes.{Outcome, Refused, Valued, gathered, with_both, with_value}
-use Rattle.td_types.specs.Types as types
-use Rattle.td_types.specs.Types.{Heading, Type', same_name, type_at}
-use Rattle.td_types.specs.TypeOrder.{heading_cmp_total}
+use Rattle.td_tree.specs.model.Outcomes.{Outcome, Refused, Valued, gathered, with_both, with_value}
+use Rattle.td_types.specs.model.Types as types
+use Rattle.td_types.specs.model.Types.{Heading, Type', same_name, type_at}
+use Rattle.td_types.specs.code.TypeOrder.{heading_cmp_total}
 use Rattle.td_types.specs.code.TypeCode.{unpack_pack}
 use Rattle.td_value.proofs.Places.{in_order}
-use Rattle.td_value.specs.Sets.{has}
-use Rattle.td_value.specs.Values.{IsAscendingBody, Relation, Tuple, Val, IsTupleOf, boolean, heading_of, integer, relation_value, tuple_cmp, tuple_value}
+use Rattle.td_value.specs.model.Sets.{has}
+use Rattle.td_value.specs.model.Values.{IsAscendingBody, Relation, Tuple, Val, IsTupleOf, boolean, heading_of, integer, relation_value, tuple_cmp, tuple_value}
 use Rattle.td_value.specs.code.ValueCode.{unpack_pack_fields, unpack_pack_rows}
 use Rattle.td_value.specs.code.Views.{values_of}
 

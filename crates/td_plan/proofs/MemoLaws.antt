@@ -2,14 +2,14 @@
 use Rattle.std.proofs.Common.{◌≡◌, ◌<◌, ◌≤◌, ◌+◌, ◌⊎◌, inl, inr, ℕ, zero, suc, List, [], ◌∷◌, ◌++◌, Option, Some, None, sym, refl, arith, length, slice_set, subst}
 use Rattle.std.specs.List.{slice_get}
 use Rattle.std.proofs.lemmas.Bool.{cases_lt}
-use Rattle.td_tree.specs.Outcomes.{Answers}
+use Rattle.td_tree.specs.model.Outcomes.{Answers}
 use Rattle.td_plan.specs.declared.running.memo.Kept.{Kept}
 use Rattle.td_plan.specs.declared.running.memo.Memo.{Memo}
 use Rattle.td_plan.specs.code.Memos.{AgreeBelow, AreKept, AreWithin, IsKept, IsMemo, IsMemoBelow, IsReady, IsReadyBelow, Keeps, KeepsBelow, Parts, Reaches}
-use Rattle.td_plan.specs.Plans.{PlanTree, Slots, with_slot}
+use Rattle.td_plan.specs.code.Plans.{PlanTree, Slots, with_slot}
 use Rattle.td_plan.proofs.SlotLaws.{agree_back, agree_below}
-use Rattle.td_value.specs.Values.{Val}
-use Rattle.td_eval.specs.Worlds.{World}
+use Rattle.td_value.specs.model.Values.{Val}
+use Rattle.td_eval.specs.model.Worlds.{World}
 
 -- what holds of nothing and of each place holds once more is pushed, or once something is set that it holds of
 pub each_pushed : {X : Type 0} (P : ℕ → Option X → Type 0) (xs : List X) (x : X) → ((j : ℕ) → P j None) → ((j : ℕ) → P j (Some x)) → ((j : ℕ) → P j (slice_get xs j)) → (j : ℕ) → P j (slice_get (xs ++ (x ∷ [])) j)

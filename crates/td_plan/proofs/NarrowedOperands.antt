@@ -1,18 +1,18 @@
 -- A plan of the operand of WHERE narrows it.
 use Rattle.std.proofs.Common.{◌≡◌, ◌∷◌, ap, subst, sym}
-use Rattle.td_check.specs.Scopes.{Scope}
-use Rattle.td_check.specs.StaticTypes.{type_of}
-use Rattle.td_eval.specs.TreeValues.{value_of}
-use Rattle.td_eval.specs.ValueTypes.{KeepsType}
+use Rattle.td_check.specs.model.Scopes.{Scope}
+use Rattle.td_check.specs.model.StaticTypes.{type_of}
+use Rattle.td_eval.specs.model.TreeValues.{value_of}
+use Rattle.td_eval.specs.laws.ValueTypes.{KeepsType}
 use Rattle.td_plan.proofs.PlannedTuples.{kept}
-use Rattle.td_plan.specs.EqualitiesOfValues.{where_value}
-use Rattle.td_plan.specs.Narrowing.{Narrows}
-use Rattle.td_plan.specs.Plans.{PlanTree}
-use Rattle.td_plan.specs.PlansOf.{IsPlanOfTyped}
-use Rattle.td_tree.specs.Outcomes.{Valued}
-use Rattle.td_tree.specs.Trees.{Tree}
-use Rattle.td_types.specs.Types.{Heading, pack}
-use Rattle.td_types.specs.Types as types
+use Rattle.td_plan.specs.laws.EqualitiesOfValues.{where_value}
+use Rattle.td_plan.specs.code.Narrowing.{Narrows}
+use Rattle.td_plan.specs.code.Plans.{PlanTree}
+use Rattle.td_plan.specs.code.PlansOf.{IsPlanOfTyped}
+use Rattle.td_tree.specs.model.Outcomes.{Valued}
+use Rattle.td_tree.specs.model.Trees.{Tree}
+use Rattle.td_types.specs.model.Types.{Heading, pack}
+use Rattle.td_types.specs.model.Types as types
 
 pub plan_narrows : (scope : Scope) (p : PlanTree) (d e : Tree) (h : Heading) → IsPlanOfTyped scope p d
     → type_of scope d ≡ Valued (types.relation (pack h)) → Narrows scope p d e h

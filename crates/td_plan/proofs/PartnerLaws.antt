@@ -11,20 +11,19 @@ use Rattle.td_algebra.proofs.Members.{first_true, second_true}
 use Rattle.td_algebra.proofs.OnNames.{kept_same}
 use Rattle.td_algebra.proofs.Projections.{projection_members}
 use Rattle.td_algebra.proofs.Relations.{member_headed}
-use Rattle.td_algebra.specs.Operators.{projected_relation}
-use Rattle.td_eval.specs.OperatorValues.{of_relation, of_truth}
+use Rattle.td_algebra.specs.model.Operators.{projected_relation}
+use Rattle.td_eval.specs.model.OperatorValues.{of_relation, of_truth}
 use Rattle.td_plan.specs.declared.running.partners.Asked.{Asked}
 use Rattle.td_plan.specs.declared.running.partners.Asked.TheVariants as asked
 use Rattle.td_plan.specs.code.Partners.{IsPartOn, asked_value, has_partner}
 use Rattle.td_types.proofs.HeadingLaws.{has_attribute-names, type_at-projection}
-use Rattle.td_types.specs.Headings.{has_attribute, has_name, projection}
-use Rattle.td_types.specs.Types.{Heading, attribute_names, same_name, type_at}
+use Rattle.td_types.specs.model.Headings.{has_attribute, has_name, projection}
+use Rattle.td_types.specs.model.Types.{Heading, attribute_names, same_name, type_at}
 use Rattle.td_value.proofs.Agreement.{agreement_of_values}
 use Rattle.td_value.proofs.Members.{contained, found}
-use Rattle.td_value.specs.Agreement.{agree_on}
-use Rattle.td_value.specs.code.Views.{relation_view}
-use Rattle.td_value.specs.Sets.{has}
-use Rattle.td_value.specs.Values.{IsRelation, IsTupleOf, Relation, Tuple, projected_tuple, tuple_cmp}
+use Rattle.td_value.specs.model.Agreement.{agree_on}
+use Rattle.td_value.specs.model.Sets.{has}
+use Rattle.td_value.specs.model.Values.{IsRelation, IsTupleOf, Relation, Tuple, projected_tuple, tuple_cmp, relation_view}
 
 -- ---- names
 

@@ -3,29 +3,29 @@ use Rattle.std.proofs.Common.{◌≡◌, ◌∙◌, ap, sym, refl, subst, ℕ, B
 use Rattle.std.specs.Prelude.{IfOk, IfSome, IsTrue, length}
 use Rattle.std.specs.List.{All, list_all}
 use Rattle.td_algebra.proofs.Members.{first_true}
-use Rattle.td_algebra.specs.Operators.{common_names, is_subset, projected_relation}
+use Rattle.td_algebra.specs.model.Operators.{common_names, is_subset, projected_relation}
 use Rattle.td_eval.proofs.code_lemmas.OpComparisons.{at_most_relations}
 use Rattle.td_eval.proofs.code_lemmas.OpValues.{relation_unpacked}
 use Rattle.td_eval.proofs.code_lemmas.TypedValues.{same_is}
-use Rattle.td_eval.specs.OperatorValues.{comparison_value, measure_value, of_relation, of_truth, on_relation, on_relations, postfix_value, relation_where}
+use Rattle.td_eval.specs.model.OperatorValues.{comparison_value, measure_value, of_relation, of_truth, on_relation, on_relations, postfix_value, relation_where}
 use Rattle.td_plan.proofs.CountedTruths.{measured_number}
 use Rattle.td_plan.proofs.PartnerLaws.{asked_alike, member_by_partner, partners_on_part}
 use Rattle.td_plan.specs.declared.running.partners.Asked.{Asked}
 use Rattle.td_plan.specs.code.Partners.{IsPartOn, asked_value, has_partner}
-use Rattle.td_plan.specs.Counted.{number_measured}
-use Rattle.td_plan.specs.Plans.{Dyadic, dyadic_value}
+use Rattle.td_plan.specs.code.Counted.{number_measured}
+use Rattle.td_plan.specs.code.Plans.{Dyadic, dyadic_value}
 use Rattle.td_tree.specs.declared.cause.Cause.TheVariants as causes
 use Rattle.td_tree.specs.declared.operator.Comparison.TheVariants as comparisons
 use Rattle.td_tree.specs.declared.operator.Measure.{Measure}
-use Rattle.td_tree.specs.Outcomes.{Outcome, Valued, Refused, value_if, with_both, with_value}
-use Rattle.td_tree.specs.Trees.{only, project}
+use Rattle.td_tree.specs.model.Outcomes.{Outcome, Valued, Refused, value_if, with_both, with_value}
+use Rattle.td_tree.specs.model.Trees.{only, project}
 use Rattle.td_types.proofs.Meanings.{pack_unpack}
 use Rattle.td_types.proofs.OutcomeLaws.{value_of_test, valued_is}
-use Rattle.td_types.specs.Headings.{agree, are_distinct, common_heading, common_part, has_attributes, has_projection, projected_heading, projection}
-use Rattle.td_types.specs.Types.{Heading, attribute_names}
+use Rattle.td_types.specs.model.Headings.{agree, are_distinct, common_heading, common_part, has_attributes, has_projection, projected_heading, projection}
+use Rattle.td_types.specs.model.Types.{Heading, attribute_names}
 use Rattle.td_value.proofs.Packed.{pack_unpack_rows}
-use Rattle.td_value.specs.Sets.{has}
-use Rattle.td_value.specs.Values.{IsRelation, IsTupleOf, Relation, Val, boolean, char, integer, relation, relation_value, tuple, tuple_cmp, user}
+use Rattle.td_value.specs.model.Sets.{has}
+use Rattle.td_value.specs.model.Values.{IsRelation, IsTupleOf, Relation, Val, boolean, char, integer, relation, relation_value, tuple, tuple_cmp, user}
 
 -- ---- operands
 

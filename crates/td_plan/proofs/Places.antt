@@ -4,7 +4,7 @@ use Rattle.std.specs.List.{slice_get}
 use Rattle.std.proofs.Math.Seq.{take-suc}
 use Rattle.std.proofs.lemmas.List.{map-append, reverse-append}
 use Rattle.td_plan.specs.code.Planners.{is_named, place_in}
-use Rattle.td_types.specs.Types.{Heading, same_name}
+use Rattle.td_types.specs.model.Types.{Heading, same_name}
 
 not_none : (o : Option ℕ) → option_map suc o ≡ None → o ≡ None
 not_none None e = refl

@@ -2,17 +2,17 @@
 use Rattle.std.proofs.Common.{◌≡◌, ◌∙◌, ◌∷◌, [], ap, refl, subst, sym}
 use Rattle.std.specs.declared.alloc.AllocError.{AllocError}
 use Rattle.std.specs.Prelude.{List, Option, Some, None, Result, Ok, Err, ⊤}
-use Rattle.td_check.specs.OperatorTypes.{over_relation}
-use Rattle.td_check.specs.Scopes.{Scope, entered_with}
-use Rattle.td_check.specs.StaticTypes.{named_types, type_of}
+use Rattle.td_check.specs.model.OperatorTypes.{over_relation}
+use Rattle.td_check.specs.model.Scopes.{Scope, entered_with}
+use Rattle.td_check.specs.model.StaticTypes.{named_types, type_of}
 use Rattle.td_plan.specs.declared.plan.step.Step.{Step}
 use Rattle.td_plan.specs.code.PlannedParts.{IsPlanned}
 use Rattle.td_tree.specs.declared.cause.Cause.{Cause}
-use Rattle.td_tree.specs.Outcomes.{Outcome, Valued, named_cause, with_value}
-use Rattle.td_tree.specs.Trees.{NamedTrees, Tree}
+use Rattle.td_tree.specs.model.Outcomes.{Outcome, Valued, named_cause, with_value}
+use Rattle.td_tree.specs.model.Trees.{NamedTrees, Tree}
 use Rattle.td_types.proofs.Meanings.{pack_unpack}
 use Rattle.td_types.proofs.OutcomeLaws.{value_of_with}
-use Rattle.td_types.specs.Types.{Attribute, Heading, Type', boolean, char, integer, pack, relation, tuple, unpack, user}
+use Rattle.td_types.specs.model.Types.{Attribute, Heading, Type', boolean, char, integer, pack, relation, tuple, unpack, user}
 
 -- a heading that is put into a type and taken out
 pub unpacked : (h : Heading) → unpack (pack h) ≡ h

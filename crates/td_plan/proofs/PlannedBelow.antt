@@ -3,7 +3,7 @@ use Rattle.std.proofs.Common.{ℕ, suc, ◌<◌, ◌≤◌, arith}
 use Rattle.std.specs.Borrow.{Bor}
 use Rattle.std.specs.Prelude.{Result}
 use Rattle.std.specs.declared.alloc.AllocError.{AllocError}
-use Rattle.td_catalog.specs.Database.{Database}
+use Rattle.td_catalog.specs.model.Database.{Database}
 use Rattle.td_plan.specs.declared.making.planner.Planner.{Planner}
 use Rattle.td_plan.specs.declared.making.planning.Planning.{Planning}
 use Rattle.td_plan.specs.declared.plan.step.Step.{Step}

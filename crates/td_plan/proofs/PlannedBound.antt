@@ -2,37 +2,37 @@
 use Rattle.std.proofs.Common.{◌≡◌, ◌∙◌, ◌++◌, ℕ, suc, Bool, true, false, List, [], ◌∷◌, ap, append-nil, append_assoc, arith, get_or, drop, length, refl, subst, sym, ◌<◌, ◌≤◌, ◌+◌, if◌then◌else◌}
 use Rattle.std.proofs.lemmas.Bool.{lt-ltb}
 use Rattle.std.proofs.lemmas.List.{at_drop_more, drop_all, length-map}
-use Rattle.td_check.specs.OperatorTypes.{misfit, tuple_type}
-use Rattle.td_check.specs.Scopes.{Scope, bound_to}
-use Rattle.td_check.specs.StaticTypes.{type_of, type_where_bound}
+use Rattle.td_check.specs.model.OperatorTypes.{misfit, tuple_type}
+use Rattle.td_check.specs.model.Scopes.{Scope, bound_to}
+use Rattle.td_check.specs.model.StaticTypes.{type_of, type_where_bound}
 use Rattle.td_eval.proofs.code_lemmas.TypedValues.{fields_heading, fields_of}
-use Rattle.td_eval.specs.OperatorValues.{on_tuple, tuple_from}
-use Rattle.td_eval.specs.TreeValues.{value_of, value_where_bound}
-use Rattle.td_eval.specs.UnfailingValues.{GivesValues}
-use Rattle.td_eval.specs.ValueTypes.{IsTypedTuple, KeepsType}
-use Rattle.td_eval.specs.Worlds.{World}
+use Rattle.td_eval.specs.model.OperatorValues.{on_tuple, tuple_from}
+use Rattle.td_eval.specs.model.TreeValues.{value_of, value_where_bound}
+use Rattle.td_eval.specs.laws.UnfailingValues.{GivesValues}
+use Rattle.td_eval.specs.laws.ValueTypes.{IsTypedTuple, KeepsType}
+use Rattle.td_eval.specs.model.Worlds.{World}
 use Rattle.td_plan.proofs.EnteredSlots.{entered_slots}
 use Rattle.td_plan.proofs.PlannedTuples.{kept}
 use Rattle.td_plan.specs.declared.plan.step.Step.{Step}
-use Rattle.td_plan.specs.Plans as plans
-use Rattle.td_plan.specs.Plans.{PlanTree, Slots, plan_value, plan_where_bound, slots_before, with_slot}
-use Rattle.td_plan.specs.PlansOf.{AreInHand, AreSlotsOf, IsPlanOfTyped, outermost}
+use Rattle.td_plan.specs.code.Plans as plans
+use Rattle.td_plan.specs.code.Plans.{PlanTree, Slots, plan_value, plan_where_bound, slots_before, with_slot}
+use Rattle.td_plan.specs.code.PlansOf.{AreInHand, AreSlotsOf, IsPlanOfTyped, outermost}
 use Rattle.td_plan.specs.code.PlannedParts.{AreItemsPlanned}
 use Rattle.td_plan.specs.code.StepViews.{step_view, steps_view}
 use Rattle.td_tree.specs.declared.expression.NamedExpr.{NamedExpr}
 use Rattle.td_tree.specs.code.TreeViews.{named_view, tree_view}
-use Rattle.td_tree.specs.Outcomes.{Outcome, Valued, Refused, with_both, with_value}
-use Rattle.td_tree.specs.Trees as trees
-use Rattle.td_tree.specs.Trees.{NamedTrees, Tree}
-use Rattle.td_tree.specs.WrittenTrees.{IsWritten, PartsGiveNames, PartsHaveTexts}
+use Rattle.td_tree.specs.model.Outcomes.{Outcome, Valued, Refused, with_both, with_value}
+use Rattle.td_tree.specs.model.Trees as trees
+use Rattle.td_tree.specs.model.Trees.{NamedTrees, Tree}
+use Rattle.td_tree.specs.model.WrittenTrees.{IsWritten, PartsGiveNames, PartsHaveTexts}
 use Rattle.td_types.proofs.OutcomeLaws.{value_of_with}
-use Rattle.td_types.specs.Headings.{has_name}
-use Rattle.td_types.specs.TypeLists.{DeclaredType}
-use Rattle.td_types.specs.Types.{Type', pack}
-use Rattle.td_types.specs.Types as types
-use Rattle.td_value.specs.KnownValues.{HasHeading}
-use Rattle.td_value.specs.Values.{Tuple, Val, heading_of, pack_fields}
-use Rattle.td_value.specs.Values as values
+use Rattle.td_types.specs.model.Headings.{has_name}
+use Rattle.td_types.specs.model.TypeLists.{DeclaredType}
+use Rattle.td_types.specs.model.Types.{Type', pack}
+use Rattle.td_types.specs.model.Types as types
+use Rattle.td_value.specs.model.KnownValues.{HasHeading}
+use Rattle.td_value.specs.model.Values.{Tuple, Val, heading_of, pack_fields}
+use Rattle.td_value.specs.model.Values as values
 use Rattle.td_value.specs.code.Views.{values_of}
 
 -- ---- one item

@@ -1,27 +1,27 @@
 -- A literal, or a tuple or a relation of such, has the same value in every world that keeps the types.
 use Rattle.std.proofs.Common.{◌≡◌, ◌∙◌, ◌++◌, ◌∷◌, List, [], ap, refl, sym}
 use Rattle.std.proofs.lemmas.List.{append-nil}
-use Rattle.td_catalog.specs.Database.{Database}
-use Rattle.td_check.specs.OperatorTypes.{headed_type, listed_type, tuple_type}
-use Rattle.td_check.specs.Scopes.{Scope}
-use Rattle.td_check.specs.StaticTypes.{named_types, type_of, types_of}
+use Rattle.td_catalog.specs.model.Database.{Database}
+use Rattle.td_check.specs.model.OperatorTypes.{headed_type, listed_type, tuple_type}
+use Rattle.td_check.specs.model.Scopes.{Scope}
+use Rattle.td_check.specs.model.StaticTypes.{named_types, type_of, types_of}
 use Rattle.td_eval.proofs.code_lemmas.WorldParts.{world_scope}
-use Rattle.td_eval.specs.DatabaseWorlds.{world_of}
-use Rattle.td_eval.specs.OperatorValues.{headed_value, listed_value, tuple_from}
-use Rattle.td_eval.specs.TreeValues.{argument_values, entry_values, value_of}
-use Rattle.td_eval.specs.Worlds.{World}
-use Rattle.td_plan.specs.Closed.{AreClosed, IsClosed, PartsAreClosed}
-use Rattle.td_plan.specs.Plans as plans
-use Rattle.td_plan.specs.PlansOf.{IsPlanOfTyped}
-use Rattle.td_tree.specs.Outcomes.{Valued, with_both, with_value}
-use Rattle.td_tree.specs.Trees as trees
-use Rattle.td_tree.specs.Trees.{AttributeTrees, NamedTrees, Tree, Trees}
+use Rattle.td_eval.specs.model.DatabaseWorlds.{world_of}
+use Rattle.td_eval.specs.model.OperatorValues.{headed_value, listed_value, tuple_from}
+use Rattle.td_eval.specs.model.TreeValues.{argument_values, entry_values, value_of}
+use Rattle.td_eval.specs.model.Worlds.{World}
+use Rattle.td_plan.specs.code.Closed.{AreClosed, IsClosed, PartsAreClosed}
+use Rattle.td_plan.specs.code.Plans as plans
+use Rattle.td_plan.specs.code.PlansOf.{IsPlanOfTyped}
+use Rattle.td_tree.specs.model.Outcomes.{Valued, with_both, with_value}
+use Rattle.td_tree.specs.model.Trees as trees
+use Rattle.td_tree.specs.model.Trees.{AttributeTrees, NamedTrees, Tree, Trees}
 use Rattle.td_types.proofs.Meanings.{attributes_later}
 use Rattle.td_types.proofs.OutcomeLaws.{value_of_with, values_of_both}
-use Rattle.td_types.specs.Headings.{made_heading}
-use Rattle.td_types.specs.TypeLists.{DeclaredType, attributes_meant, heading_meant}
-use Rattle.td_types.specs.Types.{Attribute, Heading, Type'}
-use Rattle.td_value.specs.Values.{Tuple, Val}
+use Rattle.td_types.specs.model.Headings.{made_heading}
+use Rattle.td_types.specs.model.TypeLists.{DeclaredType, attributes_meant, heading_meant}
+use Rattle.td_types.specs.model.Types.{Attribute, Heading, Type'}
+use Rattle.td_value.specs.model.Values.{Tuple, Val}
 
 -- the world has these types, and may have more
 abbrev KnowsTypes : List DeclaredType → World → Type 0

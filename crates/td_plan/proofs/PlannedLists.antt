@@ -1,17 +1,17 @@
 -- The expressions in a list, and plans of them.
 use Rattle.std.proofs.Common.{◌≡◌, ◌∙◌, ◌+◌, ◌<◌, ℕ, List, [], ◌∷◌, ◌++◌, add-one, ap, get_or, length, map, refl, subst, sym, take}
 use Rattle.std.proofs.Math.Seq.{take-suc}
-use Rattle.td_check.specs.Scopes.{Scope}
+use Rattle.td_check.specs.model.Scopes.{Scope}
 use Rattle.td_plan.specs.declared.plan.step.Step.{Step}
 use Rattle.td_plan.specs.code.PlannedParts.{ArePlansOfTyped, in_named, in_summaries, in_trees, item_tree, names_in, part_tree}
-use Rattle.td_plan.specs.PlansOf.{IsPlanOfTyped}
+use Rattle.td_plan.specs.code.PlansOf.{IsPlanOfTyped}
 use Rattle.td_plan.specs.code.StepViews.{step_view, steps_view}
 use Rattle.td_tree.specs.declared.expression.Expr.{Expr}
 use Rattle.td_tree.specs.declared.expression.NamedExpr.{NamedExpr}
 use Rattle.td_tree.specs.declared.expression.Summary.{Summary}
 use Rattle.td_tree.specs.declared.expression.Summary.TheVariants as summaries
 use Rattle.td_tree.specs.code.TreeViews.{named_view, summaries_view, tree_view, trees_view}
-use Rattle.td_tree.specs.Trees.{Tree}
+use Rattle.td_tree.specs.model.Trees.{Tree}
 
 pub expressions_are : (xs : List Expr) → in_trees (trees_view xs) ≡ map tree_view xs
 expressions_are [] = refl

@@ -2,16 +2,16 @@
 use Rattle.std.proofs.Common.{◌≡◌, ◌∙◌, ℕ, suc, Bool, true, false, List, [], ◌∷◌, Option, Some, None, ap, length, map, option_map, refl, subst, sym, if◌then◌else◌}
 use Rattle.std.specs.List.{slice_get}
 use Rattle.std.proofs.lemmas.List.{length-map}
-use Rattle.td_check.specs.Scopes.{Scope}
-use Rattle.td_eval.specs.Worlds.{World, innermost_value, known_outcome}
+use Rattle.td_check.specs.model.Scopes.{Scope}
+use Rattle.td_eval.specs.model.Worlds.{World, innermost_value, known_outcome}
 use Rattle.td_plan.specs.code.Planners.{attribute_place, place_in}
-use Rattle.td_plan.specs.Plans as plans
-use Rattle.td_plan.specs.Plans.{Slots, value_or}
-use Rattle.td_plan.specs.PlansOf.{AreSlotsOf, IsPlanOfTyped}
-use Rattle.td_tree.specs.Outcomes.{Outcome, Valued}
-use Rattle.td_tree.specs.Trees as trees
-use Rattle.td_types.specs.Types.{same_name}
-use Rattle.td_value.specs.Values.{Tuple, Val, heading_of, value_at}
+use Rattle.td_plan.specs.code.Plans as plans
+use Rattle.td_plan.specs.code.Plans.{Slots, value_or}
+use Rattle.td_plan.specs.code.PlansOf.{AreSlotsOf, IsPlanOfTyped}
+use Rattle.td_tree.specs.model.Outcomes.{Outcome, Valued}
+use Rattle.td_tree.specs.model.Trees as trees
+use Rattle.td_types.specs.model.Types.{same_name}
+use Rattle.td_value.specs.model.Values.{Tuple, Val, heading_of, value_at}
 use Rattle.td_value.specs.code.Views.{values_of}
 
 -- the value of a name in a tuple stands at its place

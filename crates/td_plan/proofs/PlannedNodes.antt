@@ -1,28 +1,28 @@
 -- Plans of the parts of an expression make a plan of it.
 use Rattle.std.proofs.Common.{◌≡◌, ◌∙◌, ◌++◌, ℕ, List, ◌∷◌, ap, refl, sym, if◌then◌else◌}
 use Rattle.std.specs.List.{zip}
-use Rattle.td_check.specs.OperatorTypes.{choice_type, comparison_type, component_type, extracted_type, headed_type, listed_type, measure_type, operator_type, postfix_type, prefix_type, selector_type, tuple_type}
-use Rattle.td_check.specs.Scopes.{Scope}
-use Rattle.td_check.specs.StaticTypes.{named_types, both_types, type_of, types_of}
-use Rattle.td_eval.specs.OperatorValues.{headed_value, listed_value, on_truth, tuple_from}
-use Rattle.td_eval.specs.TreeValues.{argument_values, entry_values}
-use Rattle.td_eval.specs.UnfailingValues.{GivesValues}
-use Rattle.td_eval.specs.Worlds.{World, selector_outcome}
+use Rattle.td_check.specs.model.OperatorTypes.{choice_type, comparison_type, component_type, extracted_type, headed_type, listed_type, measure_type, operator_type, postfix_type, prefix_type, selector_type, tuple_type}
+use Rattle.td_check.specs.model.Scopes.{Scope}
+use Rattle.td_check.specs.model.StaticTypes.{named_types, both_types, type_of, types_of}
+use Rattle.td_eval.specs.model.OperatorValues.{headed_value, listed_value, on_truth, tuple_from}
+use Rattle.td_eval.specs.model.TreeValues.{argument_values, entry_values}
+use Rattle.td_eval.specs.laws.UnfailingValues.{GivesValues}
+use Rattle.td_eval.specs.model.Worlds.{World, selector_outcome}
 use Rattle.td_plan.specs.code.PlannedParts.{ArePlansOfTyped, in_named, in_trees, names_in}
-use Rattle.td_plan.specs.OperatorTrees.{dyadic_tree, monadic_tree}
-use Rattle.td_plan.specs.Plans as plans
-use Rattle.td_plan.specs.Plans.{PlanTree, PlanTrees, Slots, dyadic_value, monadic_value, plan_value, plan_values}
-use Rattle.td_plan.specs.PlansOf.{AreInHand, AreSlotsOf, IsPlanOfTyped, outermost}
-use Rattle.td_tree.specs.Outcomes.{Outcome, Valued, Refused, gathered, with_both, with_value}
-use Rattle.td_tree.specs.Trees as trees
-use Rattle.td_tree.specs.Trees.{AttributeTrees, Tree, Trees, NamedTrees}
-use Rattle.td_tree.specs.WrittenTrees.{GiveNames, HaveTexts, PartsGiveNames, PartsHaveTexts}
+use Rattle.td_plan.specs.code.OperatorTrees.{dyadic_tree, monadic_tree}
+use Rattle.td_plan.specs.code.Plans as plans
+use Rattle.td_plan.specs.code.Plans.{PlanTree, PlanTrees, Slots, dyadic_value, monadic_value, plan_value, plan_values}
+use Rattle.td_plan.specs.code.PlansOf.{AreInHand, AreSlotsOf, IsPlanOfTyped, outermost}
+use Rattle.td_tree.specs.model.Outcomes.{Outcome, Valued, Refused, gathered, with_both, with_value}
+use Rattle.td_tree.specs.model.Trees as trees
+use Rattle.td_tree.specs.model.Trees.{AttributeTrees, Tree, Trees, NamedTrees}
+use Rattle.td_tree.specs.model.WrittenTrees.{GiveNames, HaveTexts, PartsGiveNames, PartsHaveTexts}
 use Rattle.td_types.proofs.Meanings.{attributes_later}
 use Rattle.td_types.proofs.OutcomeLaws.{value_of_with, values_of_both}
-use Rattle.td_types.specs.Headings.{made_heading}
-use Rattle.td_types.specs.TypeLists.{attributes_meant, heading_meant}
-use Rattle.td_types.specs.Types.{Attribute, Heading, Type'}
-use Rattle.td_value.specs.Values.{Tuple, Val}
+use Rattle.td_types.specs.model.Headings.{made_heading}
+use Rattle.td_types.specs.model.TypeLists.{attributes_meant, heading_meant}
+use Rattle.td_types.specs.model.Types.{Attribute, Heading, Type'}
+use Rattle.td_value.specs.model.Values.{Tuple, Val}
 
 -- ---- outcomes
 

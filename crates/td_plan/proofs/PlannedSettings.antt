@@ -2,22 +2,22 @@
 use Rattle.std.proofs.Common.{◌≡◌, ◌∙◌, ℕ, suc, List, [], ◌∷◌, ap, length, refl, if◌then◌else◌}
 use Rattle.std.specs.Prelude.{nat_eq}
 use Rattle.td_algebra.proofs.Relations.{member_headed}
-use Rattle.td_check.specs.Scopes.{Scope, entered_with}
+use Rattle.td_check.specs.model.Scopes.{Scope, entered_with}
 use Rattle.td_eval.proofs.code_lemmas.KeepsGathered.{member_from_all}
 use Rattle.td_eval.proofs.code_lemmas.OpValues.{relation_unpacked}
 use Rattle.td_eval.proofs.law_lemmas.AlikeRows.{AreAlikeIn, settings_alike}
-use Rattle.td_eval.specs.TreeValues.{values_in_tuples}
-use Rattle.td_eval.specs.ValueTypes.{IsTypedTuple}
+use Rattle.td_eval.specs.model.TreeValues.{values_in_tuples}
+use Rattle.td_eval.specs.laws.ValueTypes.{IsTypedTuple}
 use Rattle.td_plan.proofs.PlannedTuples.{parts_alike}
 use Rattle.td_plan.specs.code.PlannedParts.{ArePlansOfTyped, in_named}
-use Rattle.td_plan.specs.Plans as plans
-use Rattle.td_plan.specs.Plans.{PlanTrees, extension_of, plan_columns}
-use Rattle.td_plan.specs.PlansOf.{ArePlannedSettings}
+use Rattle.td_plan.specs.code.Plans as plans
+use Rattle.td_plan.specs.code.Plans.{PlanTrees, extension_of, plan_columns}
+use Rattle.td_plan.specs.code.PlansOf.{ArePlannedSettings}
 use Rattle.td_tree.specs.declared.cause.Cause.TheVariants as causes
-use Rattle.td_tree.specs.Outcomes.{Outcome, Valued, Refused, Only}
-use Rattle.td_tree.specs.Trees.{NamedTrees}
-use Rattle.td_types.specs.Types.{Attribute}
-use Rattle.td_value.specs.Values.{Relation, Tuple, Val, relation_value}
+use Rattle.td_tree.specs.model.Outcomes.{Outcome, Valued, Refused, Only}
+use Rattle.td_tree.specs.model.Trees.{NamedTrees}
+use Rattle.td_types.specs.model.Types.{Attribute}
+use Rattle.td_value.specs.model.Values.{Relation, Tuple, Val, relation_value}
 
 as_many_alike : (r : Relation) (fs gs : List (Tuple → Outcome Val)) → AreAlikeIn r fs gs → length fs ≡ length gs
 as_many_alike r [] [] same = refl

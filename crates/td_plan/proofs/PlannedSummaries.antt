@@ -3,41 +3,41 @@ use Rattle.std.proofs.Common.{◌≡◌, ◌∙◌, ℕ, suc, true, List, [], �
 use Rattle.std.specs.List.{zip}
 use Rattle.std.specs.Prelude.{nat_eq}
 use Rattle.std.proofs.lemmas.Bool.{eq-eqb}
-use Rattle.td_check.specs.OperatorTypes.{aggregate_type, item_type}
-use Rattle.td_check.specs.Scopes.{Scope, entered_with}
-use Rattle.td_check.specs.StaticTypes.{items_of, type_of, with_items}
+use Rattle.td_check.specs.model.OperatorTypes.{aggregate_type, item_type}
+use Rattle.td_check.specs.model.Scopes.{Scope, entered_with}
+use Rattle.td_check.specs.model.StaticTypes.{items_of, type_of, with_items}
 use Rattle.td_check.proofs.SummaryLaws.{HeadingItems, Items}
-use Rattle.td_eval.specs.AggregateValues.{summarized_value, summary_attributes, summary_value}
-use Rattle.td_eval.specs.OperatorValues.{on_relation, postfix_value}
+use Rattle.td_eval.specs.model.AggregateValues.{summarized_value, summary_attributes, summary_value}
+use Rattle.td_eval.specs.model.OperatorValues.{on_relation, postfix_value}
 use Rattle.td_eval.specs.code.Totals.{asked_by}
-use Rattle.td_eval.specs.TreeValues.{items_in_tuples, value_of}
-use Rattle.td_eval.specs.ValueTypes.{IsOfType, KeepsType}
-use Rattle.td_eval.specs.UnfailingValues.{GivesValues}
-use Rattle.td_eval.specs.Worlds.{World, with_tuples}
+use Rattle.td_eval.specs.model.TreeValues.{items_in_tuples, value_of}
+use Rattle.td_eval.specs.laws.ValueTypes.{IsOfType, KeepsType}
+use Rattle.td_eval.specs.laws.UnfailingValues.{GivesValues}
+use Rattle.td_eval.specs.model.Worlds.{World, with_tuples}
 use Rattle.td_eval.proofs.law_lemmas.AlikeOutcomes.{both_alike, over_same, with_alike}
 use Rattle.td_eval.proofs.law_lemmas.AlikeSummaries.{SummandsAlikeIn, summarized_alike}
 use Rattle.td_eval.proofs.code_lemmas.SummaryParts.{attributes_of_items, by_type, more_changes_no_items, per_type}
 use Rattle.td_eval.proofs.code_lemmas.TypedRows.{rows_typed}
 use Rattle.td_plan.specs.code.PlannedParts.{ArePlansOfTyped, in_summaries}
-use Rattle.td_plan.specs.Plans as plans
-use Rattle.td_plan.specs.Plans.{PlanTree, PlanTrees, Slots, plan_columns, summary_of}
-use Rattle.td_plan.specs.PlansOf.{AreInHand, AreSlotsOf, IsPlanOfTyped, outermost}
-use Rattle.td_plan.specs.SummaryItems.{aggregates_in}
+use Rattle.td_plan.specs.code.Plans as plans
+use Rattle.td_plan.specs.code.Plans.{PlanTree, PlanTrees, Slots, plan_columns, summary_of}
+use Rattle.td_plan.specs.code.PlansOf.{AreInHand, AreSlotsOf, IsPlanOfTyped, outermost}
+use Rattle.td_plan.specs.code.SummaryItems.{aggregates_in}
 use Rattle.td_plan.proofs.PlannedTuples.{heading_is, kept, more_there, one_alike}
 use Rattle.td_group.specs.declared.aggregates.Agg.{Agg}
 use Rattle.td_tree.specs.declared.expression.Summary.{Summary}
 use Rattle.td_tree.specs.declared.expression.Summary.TheVariants as summaries
-use Rattle.td_tree.specs.Outcomes.{Outcome, Valued, gathered, with_both, with_value}
+use Rattle.td_tree.specs.model.Outcomes.{Outcome, Valued, gathered, with_both, with_value}
 use Rattle.td_tree.specs.code.TreeViews.{summaries_view}
-use Rattle.td_tree.specs.Trees as trees
-use Rattle.td_tree.specs.Trees.{Attributes, Summaries, Tree, project}
-use Rattle.td_tree.specs.WrittenTrees.{IsWritten, ItemsGiveNames, ItemsHaveTexts}
+use Rattle.td_tree.specs.model.Trees as trees
+use Rattle.td_tree.specs.model.Trees.{Attributes, Summaries, Tree, project}
+use Rattle.td_tree.specs.model.WrittenTrees.{IsWritten, ItemsGiveNames, ItemsHaveTexts}
 use Rattle.td_types.proofs.Meanings.{pack_unpack}
 use Rattle.td_types.proofs.OutcomeLaws.{value_of_with, valued_is, values_of_both}
 use Rattle.td_types.specs.code.TypeCode.{unpack_pack}
-use Rattle.td_types.specs.Types.{Attribute, Heading, Type', boolean, integer, pack, unpack}
-use Rattle.td_types.specs.Types as types
-use Rattle.td_value.specs.Values.{Relation, Tuple, Val, relation_value}
+use Rattle.td_types.specs.model.Types.{Attribute, Heading, Type', boolean, integer, pack, unpack}
+use Rattle.td_types.specs.model.Types as types
+use Rattle.td_value.specs.model.Values.{Relation, Tuple, Val, relation_value}
 
 -- the aggregates of the items of the code
 pub aggregates_are : (xs : List Summary) → aggregates_in (summaries_view xs) ≡ map asked_by xs

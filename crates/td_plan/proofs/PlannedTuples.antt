@@ -4,41 +4,41 @@ use Rattle.std.specs.List.{Contains}
 use Rattle.std.specs.Prelude.{nat_eq}
 use Rattle.std.proofs.lemmas.Bool.{eq-eqb}
 use Rattle.td_algebra.proofs.Members.{second_true}
-use Rattle.td_check.specs.OperatorTypes.{aggregate_type, extended_by, extension_type, over_relation, restriction_type}
-use Rattle.td_check.specs.Scopes.{Scope, entered_with}
-use Rattle.td_check.specs.StaticLaws.{HasMore}
-use Rattle.td_check.specs.StaticTypes.{named_types, type_of}
+use Rattle.td_check.specs.model.OperatorTypes.{aggregate_type, extended_by, extension_type, over_relation, restriction_type}
+use Rattle.td_check.specs.model.Scopes.{Scope, entered_with}
+use Rattle.td_check.specs.laws.StaticLaws.{HasMore}
+use Rattle.td_check.specs.model.StaticTypes.{named_types, type_of}
 use Rattle.td_check.proofs.StaticLaws.{more_changes_no_parts}
-use Rattle.td_eval.specs.AggregateValues.{aggregated_value, asked_of}
-use Rattle.td_eval.specs.OperatorValues.{extended_by_settings, extended_value, on_relation, restricted_value}
-use Rattle.td_eval.specs.TreeValues.{value_of, values_in_tuples}
-use Rattle.td_eval.specs.ValueTypes.{IsTypedTuple, KeepsType}
-use Rattle.td_eval.specs.UnfailingValues.{GivesValues}
-use Rattle.td_eval.specs.Worlds.{World, with_tuples}
+use Rattle.td_eval.specs.model.AggregateValues.{aggregated_value, asked_of}
+use Rattle.td_eval.specs.model.OperatorValues.{extended_by_settings, extended_value, on_relation, restricted_value}
+use Rattle.td_eval.specs.model.TreeValues.{value_of, values_in_tuples}
+use Rattle.td_eval.specs.laws.ValueTypes.{IsTypedTuple, KeepsType}
+use Rattle.td_eval.specs.laws.UnfailingValues.{GivesValues}
+use Rattle.td_eval.specs.model.Worlds.{World, with_tuples}
 use Rattle.td_eval.proofs.law_lemmas.AlikeOutcomes.{over_same}
 use Rattle.td_eval.proofs.law_lemmas.AlikeRows.{AlikeIn, AreAlikeIn, aggregated_alike, restricted_alike, settings_alike}
 use Rattle.td_eval.proofs.law_lemmas.NewSettings.{new_settings_extend}
 use Rattle.td_eval.proofs.code_lemmas.TypedRows.{rows_typed}
 use Rattle.td_eval.proofs.code_lemmas.TypedTrees.{values_keep_types}
-use Rattle.td_plan.specs.Narrowing.{Narrows}
+use Rattle.td_plan.specs.code.Narrowing.{Narrows}
 use Rattle.td_plan.specs.code.PlannedParts.{ArePlansOfTyped, in_named}
 use Rattle.td_plan.proofs.EnteredSlots.{entered_slots}
 use Rattle.td_plan.proofs.PlannedAnswers.{parts_typed}
-use Rattle.td_plan.specs.Plans as plans
-use Rattle.td_plan.specs.Plans.{PlanTree, PlanTrees, Slots, extension_of, plan_columns, plan_value, with_slot}
-use Rattle.td_plan.specs.PlansOf.{AreInHand, AreSlotsOf, IsPlanOf, IsPlanOfTyped, outermost}
+use Rattle.td_plan.specs.code.Plans as plans
+use Rattle.td_plan.specs.code.Plans.{PlanTree, PlanTrees, Slots, extension_of, plan_columns, plan_value, with_slot}
+use Rattle.td_plan.specs.code.PlansOf.{AreInHand, AreSlotsOf, IsPlanOf, IsPlanOfTyped, outermost}
 use Rattle.td_tree.specs.declared.cause.Cause.TheVariants as causes
 use Rattle.td_tree.specs.declared.operator.Aggregate.{Aggregate}
-use Rattle.td_tree.specs.Outcomes.{Outcome, Valued, with_value}
-use Rattle.td_tree.specs.Trees as trees
-use Rattle.td_tree.specs.Trees.{NamedTrees, Tree}
-use Rattle.td_tree.specs.WrittenTrees.{IsWritten, PartsGiveNames, PartsHaveTexts}
+use Rattle.td_tree.specs.model.Outcomes.{Outcome, Valued, with_value}
+use Rattle.td_tree.specs.model.Trees as trees
+use Rattle.td_tree.specs.model.Trees.{NamedTrees, Tree}
+use Rattle.td_tree.specs.model.WrittenTrees.{IsWritten, PartsGiveNames, PartsHaveTexts}
 use Rattle.td_types.proofs.OutcomeLaws.{value_of_test, value_of_with, valued_is, values_of_both}
-use Rattle.td_types.specs.Headings.{are_distinct, have_no_common}
+use Rattle.td_types.specs.model.Headings.{are_distinct, have_no_common}
 use Rattle.td_types.specs.code.TypeCode.{unpack_pack}
-use Rattle.td_types.specs.Types.{Attribute, Attrs, Heading, Type', attribute_names, pack, unpack}
-use Rattle.td_types.specs.Types as types
-use Rattle.td_value.specs.Values.{Relation, Tuple, heading_of}
+use Rattle.td_types.specs.model.Types.{Attribute, Attrs, Heading, Type', attribute_names, pack, unpack}
+use Rattle.td_types.specs.model.Types as types
+use Rattle.td_value.specs.model.Values.{Relation, Tuple, heading_of}
 use Rattle.td_value.specs.code.Views.{values_of}
 
 -- ---- in the tuples of a relation that an operand has as its value

@@ -3,44 +3,44 @@ use Rattle.std.proofs.Common.{◌≡◌, ◌∙◌, ◌∷◌, ◌&&◌, ℕ, Bo
 use Rattle.std.specs.List.{list_any}
 use Rattle.std.specs.Prelude.{if◌then◌else◌, is_some}
 use Rattle.td_check.proofs.NameSets.{names_are_a_set}
-use Rattle.td_check.specs.Mentions.{name_set}
-use Rattle.td_check.specs.OperatorTypes.{joined_apart, operator_type, over_relation, over_relations, relation_if, restriction_type, same_heading, same_type}
-use Rattle.td_check.specs.Scopes.{Scope, entered_with}
-use Rattle.td_check.specs.StaticTypes.{type_of}
-use Rattle.td_check.specs.WrittenNames.{names_in}
+use Rattle.td_check.specs.model.Mentions.{name_set}
+use Rattle.td_check.specs.model.OperatorTypes.{joined_apart, operator_type, over_relation, over_relations, relation_if, restriction_type, same_heading, same_type}
+use Rattle.td_check.specs.model.Scopes.{Scope, entered_with}
+use Rattle.td_check.specs.model.StaticTypes.{type_of}
+use Rattle.td_check.specs.laws.WrittenNames.{names_in}
 use Rattle.td_eval.proofs.code_lemmas.TypedTrees.{values_keep_types}
-use Rattle.td_eval.specs.OperatorValues.{of_relation}
-use Rattle.td_eval.specs.TreeValues.{value_of}
-use Rattle.td_eval.specs.UnfailingValues.{GivesValues}
-use Rattle.td_eval.specs.ValueTypes.{IsOfType, KeepsType}
-use Rattle.td_eval.specs.Worlds.{World, with_tuples}
+use Rattle.td_eval.specs.model.OperatorValues.{of_relation}
+use Rattle.td_eval.specs.model.TreeValues.{value_of}
+use Rattle.td_eval.specs.laws.UnfailingValues.{GivesValues}
+use Rattle.td_eval.specs.laws.ValueTypes.{IsOfType, KeepsType}
+use Rattle.td_eval.specs.model.Worlds.{World, with_tuples}
 use Rattle.td_plan.proofs.EqualNames.{names_are_asked}
 use Rattle.td_plan.proofs.EqualValues.{gives_more, where_of_intersect_left, where_of_join_left, where_of_join_right, where_of_minus, where_of_times_left, where_of_times_right, where_of_union}
 use Rattle.td_plan.proofs.FixedValues.{none_passes}
 use Rattle.td_plan.proofs.LookUpValues.{answers, relation_of_value}
 use Rattle.td_plan.proofs.PlannedAnswers.{relation_typed}
-use Rattle.td_plan.specs.Equalities.{AsksOnlyOf}
-use Rattle.td_plan.specs.EqualitiesOfNames.{NamesOnly}
-use Rattle.td_plan.specs.EqualitiesOfValues.{Gives, IsAnsweredBy, IsHeadedAndAnswered, IsTotalIn, operated_outcome, where_value}
-use Rattle.td_plan.specs.PlansOf.{AreInHand, IsPlanOfTyped, outermost}
-use Rattle.td_plan.specs.Plans.{PlanTree}
+use Rattle.td_plan.specs.laws.Equalities.{AsksOnlyOf}
+use Rattle.td_plan.specs.laws.EqualitiesOfNames.{NamesOnly}
+use Rattle.td_plan.specs.laws.EqualitiesOfValues.{Gives, IsAnsweredBy, IsHeadedAndAnswered, IsTotalIn, operated_outcome, where_value}
+use Rattle.td_plan.specs.code.PlansOf.{AreInHand, IsPlanOfTyped, outermost}
+use Rattle.td_plan.specs.code.Plans.{PlanTree}
 use Rattle.td_plan.specs.declared.rewriting.push.Restricted.TheVariants as operands
-use Rattle.td_plan.specs.Pushing.{IsAnsweredIn, MayStandFor, restricted_tree}
+use Rattle.td_plan.specs.code.Pushing.{IsAnsweredIn, MayStandFor, restricted_tree}
 use Rattle.td_tree.specs.declared.cause.Cause.TheVariants as causes
 use Rattle.td_tree.specs.declared.operator.Operator.{Operator}
 use Rattle.td_tree.specs.declared.operator.Operator.TheVariants as operators
-use Rattle.td_tree.specs.Outcomes.{Outcome, Valued, Refused, value_if, with_both, with_value}
-use Rattle.td_tree.specs.Trees.{Tree, binary, restriction}
-use Rattle.td_tree.specs.WrittenTrees.{IsWritten}
+use Rattle.td_tree.specs.model.Outcomes.{Outcome, Valued, Refused, value_if, with_both, with_value}
+use Rattle.td_tree.specs.model.Trees.{Tree, binary, restriction}
+use Rattle.td_tree.specs.model.WrittenTrees.{IsWritten}
 use Rattle.td_types.proofs.HeadingLaws.{has_attribute-names, type_at-union}
 use Rattle.td_types.proofs.NameTests.{name_tests_tell}
 use Rattle.td_types.proofs.OutcomeLaws.{value_of_test, value_of_with, valued_is, values_of_both}
-use Rattle.td_types.specs.Headings.{agree, has_attribute, has_name, have_no_common, heading_union, united_heading}
+use Rattle.td_types.specs.model.Headings.{agree, has_attribute, has_name, have_no_common, heading_union, united_heading}
 use Rattle.td_types.specs.code.TypeCode.{unpack_pack}
-use Rattle.td_types.specs.TypeLists.{DeclaredType}
-use Rattle.td_types.specs.Types as types
-use Rattle.td_types.specs.Types.{Heading, Type', attribute_names, pack, type_at, unpack}
-use Rattle.td_value.specs.Values.{IsRelation, Relation, Tuple, Val, relation_value}
+use Rattle.td_types.specs.model.TypeLists.{DeclaredType}
+use Rattle.td_types.specs.model.Types as types
+use Rattle.td_types.specs.model.Types.{Heading, Type', attribute_names, pack, type_at, unpack}
+use Rattle.td_value.specs.model.Values.{IsRelation, Relation, Tuple, Val, relation_value}
 
 -- a plan of what stands for an expression is one of the expression
 pub stands_planned : (scope : Scope) (p : PlanTree) (e d : Tree) → MayStandFor scope e d → IsPlanOfTyped scope p e → IsPlanOfTyped scope p d

@@ -6,13 +6,13 @@ use Rattle.std.specs.Global.{Vec}
 use Rattle.std.specs.List.{slice_get, zip}
 use Rattle.std.specs.Prelude.{nat_eq, not, replicate}
 use Rattle.td_check.proofs.CheckedLists.{step_taken}
-use Rattle.td_eval.specs.OperatorValues.{prefix_value, truth_value}
-use Rattle.td_eval.specs.Worlds.{World}
+use Rattle.td_eval.specs.model.OperatorValues.{prefix_value, truth_value}
+use Rattle.td_eval.specs.model.Worlds.{World}
 use Rattle.td_plan.specs.declared.plan.step.Step.{Step}
 use Rattle.td_plan.proofs.SlotLaws.{agree_below, slot_here, slot_other}
 use Rattle.td_plan.specs.declared.running.hand.Inside.{Inside}
 use Rattle.td_plan.specs.declared.running.memo.Memo.{Memo}
-use Rattle.td_plan.specs.Plans.{PlanTree, PlanTrees, Slots, attribute, bound, plan_value, value_or}
+use Rattle.td_plan.specs.code.Plans.{PlanTree, PlanTrees, Slots, attribute, bound, plan_value, value_or}
 use Rattle.td_plan.specs.code.Hands.{slots_in, slots_inside}
 use Rattle.td_plan.specs.code.Quick.{AreInRows, AreQuick, IsQuick}
 use Rattle.td_plan.specs.code.QuickInside.{IsMemoInside, value_inside}
@@ -20,9 +20,9 @@ use Rattle.td_plan.specs.code.Memos.{IsMemo, Parts}
 use Rattle.td_plan.specs.code.Runs.{step_value}
 use Rattle.td_plan.specs.code.StepViews.{step_view}
 use Rattle.td_tree.specs.declared.operator.Prefix.TheVariants as prefixes
-use Rattle.td_tree.specs.Outcomes.{Outcome, Valued, gathered, with_both, with_value}
+use Rattle.td_tree.specs.model.Outcomes.{Outcome, Valued, gathered, with_both, with_value}
 use Rattle.td_value.specs.code.Views.{values_of}
-use Rattle.td_value.specs.Values.{Tuple, Val, boolean}
+use Rattle.td_value.specs.model.Values.{Tuple, Val, boolean}
 
 -- the value of one element more
 pub one_more : {X Y : Type 0} (view : Y → Val) (f : X → Outcome Val) (xs : List X) (i : ℕ) (x : X) (ys : List Y) (y : Y) → i < length xs → x ≡ get_or xs i x

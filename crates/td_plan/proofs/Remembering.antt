@@ -5,7 +5,7 @@ use Rattle.std.specs.Prelude.{IfOk, Result, Ok, Err, ⊤}
 use Rattle.td_plan.specs.declared.plan.step.Step.{Step}
 use Rattle.td_plan.proofs.PlacedLaws.{placed_all, placed_both, placed_map, placed_more}
 use Rattle.td_plan.proofs.Withins.{on_more}
-use Rattle.td_plan.specs.Plans.{PlanTree, PlanTrees, more}
+use Rattle.td_plan.specs.code.Plans.{PlanTree, PlanTrees, more}
 use Rattle.td_plan.specs.code.Memos.{AreWithinReach, AreOn, AreSound, IsOn, IsSound, Parts, Placed}
 use Rattle.td_plan.specs.code.Remembered.{AreAllAmong, AreAllRemembered, AreAmong, AreAmongBefore, AreAmongBut, AreBoundNames, AreEachKept, AreEachRemembered, AreRemembered, AreRememberedBound, AreRememberedInside, AreRememberedInsideBoth, AreThreeRemembered, IsRemembered, KeepsPart}
 use Rattle.td_plan.specs.code.StepViews.{step_view, steps_view}

@@ -4,29 +4,29 @@ use Rattle.std.proofs.lemmas.Bool.{eq-eqb, ne_eqb}
 use Rattle.std.specs.Global.{Vec}
 use Rattle.std.specs.List.{zip}
 use Rattle.std.specs.Prelude.{IfOk}
-use Rattle.td_algebra.specs.Columns.{NamedColumn, columns_view}
+use Rattle.td_algebra.specs.code.Columns.{NamedColumn, columns_view}
 use Rattle.td_algebra.specs.declared.extension.Column.{Column}
 use Rattle.td_eval.proofs.code_lemmas.Selectors.{other_scope}
 use Rattle.td_eval.proofs.code_lemmas.WorldParts.{world_scope}
 use Rattle.td_eval.specs.declared.env.Env.{Env}
-use Rattle.td_eval.specs.DatabaseWorlds.{world_of}
+use Rattle.td_eval.specs.model.DatabaseWorlds.{world_of}
 use Rattle.td_eval.specs.code.NewColumns.{AreColumnsFor, named_columns, with_values}
-use Rattle.td_eval.specs.OperatorValues.{column_values, on_relation, on_truth, truth_value}
-use Rattle.td_eval.specs.code.Sights.{other_in, world_in}
-use Rattle.td_eval.specs.Worlds.{World}
+use Rattle.td_eval.specs.model.OperatorValues.{column_values, on_relation, on_truth, truth_value}
+use Rattle.td_eval.specs.code.LentWorlds.{other_in, world_in}
+use Rattle.td_eval.specs.model.Worlds.{World}
 use Rattle.td_plan.specs.declared.plan.step.Step.{Step}
-use Rattle.td_plan.specs.declared.running.surroundings.ValuedRelvar.{ValuedRelvar}
+use Rattle.td_plan.specs.declared.running.plan_world.ValuedRelvar.{ValuedRelvar}
 use Rattle.td_plan.specs.code.Hands.{AreValued, IsValued}
-use Rattle.td_plan.specs.Plans.{Slots, where_as_many}
+use Rattle.td_plan.specs.code.Plans.{Slots, where_as_many}
 use Rattle.td_plan.specs.code.Runs.{step_value, step_values, value_in, values_in}
 use Rattle.td_tree.specs.declared.cause.Cause.TheVariants as causes
 use Rattle.td_tree.specs.declared.fault.Fault.{Fault}
 use Rattle.td_tree.specs.declared.fault.Fault.TheVariants as faults
-use Rattle.td_tree.specs.Outcomes.{Answers, Outcome, Valued, Refused, Only, gathered, with_value}
+use Rattle.td_tree.specs.model.Outcomes.{Answers, Outcome, Valued, Refused, Only, gathered, with_value}
 use Rattle.td_types.specs.declared.ty.Ty.{Ty}
-use Rattle.td_types.specs.Types.{Attribute}
+use Rattle.td_types.specs.model.Types.{Attribute}
 use Rattle.td_types.specs.code.Views.{pairs_view, type_view}
-use Rattle.td_value.specs.Values.{Relation, Tuple, Val, boolean, char, integer, relation, tuple, user}
+use Rattle.td_value.specs.model.Values.{Relation, Tuple, Val, boolean, char, integer, relation, tuple, user}
 
 -- the values of steps are those of each
 pub values_found : (w : World) (s : Slots) (ps : List Step) → step_values w s ps ≡ map (step_value w s) ps

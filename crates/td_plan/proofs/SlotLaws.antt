@@ -6,8 +6,8 @@ use Rattle.std.specs.List.{slice_get}
 use Rattle.std.proofs.lemmas.Bool.{eq-eqb, eqb-false, eqb-true, lt-ltb, ltb-false, ltb-true}
 use Rattle.td_plan.specs.code.Hands.{cells_at, cells_lent, cells_of, slots_in, slots_lent}
 use Rattle.td_plan.specs.code.Memos.{AgreeBelow}
-use Rattle.td_plan.specs.Plans.{Slots, slots_before, with_slot}
-use Rattle.td_value.specs.Values.{Tuple, Val}
+use Rattle.td_plan.specs.code.Plans.{Slots, slots_before, with_slot}
+use Rattle.td_value.specs.model.Values.{Tuple, Val}
 
 unequal : (a b : ℕ) → (a ≡ b → ⊥) → nat_eq a b ≡ false
 unequal a b h = by_test (nat_eq a b) refl

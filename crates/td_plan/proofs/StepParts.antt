@@ -2,7 +2,7 @@
 use Rattle.std.proofs.Common.{◌≡◌, ◌∙◌, ℕ, List, ap, refl, subst, suc, sym}
 use Rattle.std.specs.Global.{Box, Vec}
 use Rattle.std.specs.Prelude.{max}
-use Rattle.td_eval.specs.Worlds.{World}
+use Rattle.td_eval.specs.model.Worlds.{World}
 use Rattle.td_group.specs.declared.aggregates.Agg.{Agg}
 use Rattle.td_plan.proofs.StepRows.{bound_is, extend_is, select_is, steps_are, summarize_by_is, summarize_per_is}
 use Rattle.td_plan.specs.declared.plan.step.Dyadic.{Dyadic}
@@ -11,7 +11,7 @@ use Rattle.td_plan.specs.declared.plan.step.Selector.TheVariants as selectors
 use Rattle.td_plan.specs.declared.plan.step.Step.{Step, Row_of-Step, end_of-Step, more_of-Step, items-the_row-Step, items_hidden-the_row-Step-0}
 use Rattle.td_plan.specs.declared.plan.step.Step.TheVariants as p
 use Rattle.td_plan.specs.declared.running.memo.Memo.{Memo}
-use Rattle.td_plan.specs.Plans.{PlanTree, Slots, bound, dyadic, extend, plan_value, select, summarize_by, summarize_per}
+use Rattle.td_plan.specs.code.Plans.{PlanTree, Slots, bound, dyadic, extend, plan_value, select, summarize_by, summarize_per}
 use Rattle.td_plan.specs.code.Memos.{AreWithinReach, AreSound, IsMemo, IsReady, IsSound, IsSoundRow, Keeps, Parts}
 use Rattle.td_plan.specs.code.Runs.{step_value}
 use Rattle.td_plan.specs.code.StepHeights.{row_height, step_height, steps_height}
@@ -19,11 +19,11 @@ use Rattle.td_plan.specs.code.StepViews.{dyadic_view, selector_view, step_view, 
 use Rattle.td_tree.specs.declared.expression.Attributes.{Attributes}
 use Rattle.td_tree.specs.declared.fault.Fault.{Fault}
 use Rattle.td_tree.specs.code.TreeViews.{attributes_view}
-use Rattle.td_tree.specs.Outcomes.{Answers}
+use Rattle.td_tree.specs.model.Outcomes.{Answers}
 use Rattle.std.specs.Prelude.{Result}
 use Rattle.td_types.specs.declared.ty.Ty.{Ty}
 use Rattle.td_types.specs.code.Views.{pairs_view}
-use Rattle.td_value.specs.Values.{Val}
+use Rattle.td_value.specs.model.Values.{Val}
 
 row_sound : (ps : Parts) (n : _) (row : Row_of-Step n) → IsSoundRow ps row → AreSound ps (items-the_row-Step n row)
 row_sound ps n end_of-Step h = tt

@@ -6,7 +6,7 @@ use Rattle.td_plan.specs.declared.plan.step.Selector.{Selector}
 use Rattle.td_plan.specs.declared.plan.step.Selector.TheVariants as selectors
 use Rattle.td_plan.specs.declared.plan.step.Step.{Step, Row_of-Step, end_of-Step, more_of-Step, items-the_row-Step, items_hidden-the_row-Step-0}
 use Rattle.td_plan.specs.declared.plan.step.Step.TheVariants as p
-use Rattle.td_plan.specs.Plans.{PlanTrees, bound, more, select, extend, summarize_per, summarize_by}
+use Rattle.td_plan.specs.code.Plans.{PlanTrees, bound, more, select, extend, summarize_per, summarize_by}
 use Rattle.td_plan.specs.code.StepViews.{selector_view, step_view, steps_row, steps_view}
 use Rattle.td_tree.specs.declared.expression.Attributes.{Attributes}
 use Rattle.td_tree.specs.code.TreeViews.{attributes_view}

@@ -1,16 +1,16 @@
 -- What the run of SUMMARIZE goes through.
 use Rattle.std.proofs.Common.{◌≡◌, ◌<◌, ℕ, zero, suc, List, [], ◌∷◌, Err, ap, arith, get_or, length, map, refl}
 use Rattle.std.specs.List.{zip}
-use Rattle.td_eval.specs.OperatorValues.{on_relation, on_relations}
-use Rattle.td_eval.specs.Worlds.{World}
+use Rattle.td_eval.specs.model.OperatorValues.{on_relation, on_relations}
+use Rattle.td_eval.specs.model.Worlds.{World}
 use Rattle.td_group.specs.declared.aggregates.Agg.{Agg}
 use Rattle.td_plan.specs.declared.plan.step.Step.{Step}
-use Rattle.td_plan.specs.Plans.{Slots}
+use Rattle.td_plan.specs.code.Plans.{Slots}
 use Rattle.td_plan.specs.code.Runs.{value_in, values_in}
 use Rattle.td_tree.specs.declared.fault.Fault.{Fault}
 use Rattle.td_tree.specs.declared.fault.Fault.TheVariants as faults
-use Rattle.td_tree.specs.Outcomes.{Answers, Outcome, Valued, gathered}
-use Rattle.td_value.specs.Values.{Relation, Tuple, Val, boolean, char, integer, relation, tuple, user}
+use Rattle.td_tree.specs.model.Outcomes.{Answers, Outcome, Valued, gathered}
+use Rattle.td_value.specs.model.Values.{Relation, Tuple, Val, boolean, char, integer, relation, tuple, user}
 
 module _ (w : World) where
   -- the values of a step in the tuples of a group

@@ -1,15 +1,15 @@
 -- A condition that cannot fail in the tuples of a relation has a truth value in each of them.
 use Rattle.std.proofs.Common.{◌≡◌, ◌∙◌, ◌∷◌, true, ap, subst, sym}
-use Rattle.td_check.specs.CannotFail.{cannot_fail}
-use Rattle.td_check.specs.Scopes.{entered_with}
-use Rattle.td_check.specs.StaticTypes.{type_of}
+use Rattle.td_check.specs.laws.CannotFail.{cannot_fail}
+use Rattle.td_check.specs.model.Scopes.{entered_with}
+use Rattle.td_check.specs.model.StaticTypes.{type_of}
 use Rattle.td_eval.proofs.code_lemmas.TypedRows.{rows_typed}
 use Rattle.td_eval.proofs.code_lemmas.TypedValues.{truth_of}
 use Rattle.td_eval.proofs.law_lemmas.UnfailingTrees.{unfailing_expressions_have_values}
-use Rattle.td_eval.specs.Worlds.{with_tuples}
-use Rattle.td_plan.specs.TotalConditions.{UnfailingConditionsAreTotal}
-use Rattle.td_tree.specs.Outcomes.{Valued}
-use Rattle.td_types.specs.Types as types
+use Rattle.td_eval.specs.model.Worlds.{with_tuples}
+use Rattle.td_plan.specs.laws.TotalConditions.{UnfailingConditionsAreTotal}
+use Rattle.td_tree.specs.model.Outcomes.{Valued}
+use Rattle.td_types.specs.model.Types as types
 
 pub unfailing_conditions_are_total : UnfailingConditionsAreTotal
 unfailing_conditions_are_total w scope s r condition k h p written m is never u c =

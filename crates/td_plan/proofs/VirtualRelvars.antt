@@ -2,34 +2,34 @@
 use Rattle.std.proofs.Common.{◌≡◌, ◌∙◌, ◌∷◌, ◌++◌, ℕ, List, [], Result, Some, append-nil, ap, refl, subst, sym}
 use Rattle.std.specs.List.{AllByRecursion}
 use Rattle.std.specs.Prelude.{is_some}
-use Rattle.td_catalog.specs.Database.{Database, VirtualRelvar, database_scope, virtual_named}
-use Rattle.td_catalog.specs.TypedDatabases.{IsTyped}
-use Rattle.td_check.specs.Scopes.{Scope, known_relvar}
-use Rattle.td_check.specs.StaticTypes.{type_of}
+use Rattle.td_catalog.specs.model.Database.{Database, VirtualRelvar, database_scope, virtual_named}
+use Rattle.td_catalog.specs.model.TypedDatabases.{IsTyped}
+use Rattle.td_check.specs.model.Scopes.{Scope, known_relvar}
+use Rattle.td_check.specs.model.StaticTypes.{type_of}
 use Rattle.td_check.proofs.StaticLaws.{more_changes_nothing}
-use Rattle.td_eval.specs.DatabaseWorlds.{selectors_of, world_of}
-use Rattle.td_eval.specs.TreeValues.{value_of}
-use Rattle.td_eval.specs.UnfailingValues.{GivesValues}
-use Rattle.td_eval.specs.ValueLaws.{IsChecked}
-use Rattle.td_eval.specs.Worlds.{World, known_outcome, selector_outcome}
+use Rattle.td_eval.specs.model.DatabaseWorlds.{selectors_of, world_of}
+use Rattle.td_eval.specs.model.TreeValues.{value_of}
+use Rattle.td_eval.specs.laws.UnfailingValues.{GivesValues}
+use Rattle.td_eval.specs.laws.ValueLaws.{IsChecked}
+use Rattle.td_eval.specs.model.Worlds.{World, known_outcome, selector_outcome}
 use Rattle.td_eval.proofs.law_lemmas.KnownRelvars.{NamedAt, front_has_more, fronted, known_in_more, named_at, no_base, stays_behind, virtual_at}
 use Rattle.td_eval.proofs.law_lemmas.LaterTypes.{selected_by}
 use Rattle.td_eval.proofs.law_lemmas.MoreWorlds.{HasMoreThan, same_in_more}
 use Rattle.td_eval.proofs.law_lemmas.TypedDatabases.{all_at, fronts_keep}
 use Rattle.td_eval.proofs.law_lemmas.ValuedWorlds.{typed_databases_give_values}
 use Rattle.td_eval.proofs.code_lemmas.WorldParts.{virtual_name, world_scope, world_selectors}
-use Rattle.td_plan.specs.declared.running.surroundings.ValuedRelvar.{ValuedRelvar}
+use Rattle.td_plan.specs.declared.running.plan_world.ValuedRelvar.{ValuedRelvar}
 use Rattle.td_plan.specs.code.Hands.{AreValued, IsValued}
-use Rattle.td_plan.specs.Plans.{PlanTree}
-use Rattle.td_plan.specs.PlansOf.{AreInHand, IsPlanFor, IsPlanIfTyped, IsPlanOf, outermost}
-use Rattle.td_plan.specs.VirtualRelvars.{VirtualRelvarsAreTheirExpressions}
+use Rattle.td_plan.specs.code.Plans.{PlanTree}
+use Rattle.td_plan.specs.code.PlansOf.{AreInHand, IsPlanFor, IsPlanIfTyped, IsPlanOf, outermost}
+use Rattle.td_plan.specs.laws.VirtualRelvars.{VirtualRelvarsAreTheirExpressions}
 use Rattle.td_tree.specs.declared.fault.Fault.{Fault}
-use Rattle.td_tree.specs.Outcomes.{Answers, Outcome, Valued}
-use Rattle.td_tree.specs.Trees.{Tree}
-use Rattle.td_tree.specs.WrittenTrees.{IsWritten}
-use Rattle.td_types.specs.Types.{pack}
-use Rattle.td_types.specs.Types as types
-use Rattle.td_value.specs.Values.{Tuple, Val}
+use Rattle.td_tree.specs.model.Outcomes.{Answers, Outcome, Valued}
+use Rattle.td_tree.specs.model.Trees.{Tree}
+use Rattle.td_tree.specs.model.WrittenTrees.{IsWritten}
+use Rattle.td_types.specs.model.Types.{pack}
+use Rattle.td_types.specs.model.Types as types
+use Rattle.td_value.specs.model.Values.{Tuple, Val}
 
 module _ (db : Database) (is_typed : IsTyped db) where
   -- the database gives values in its scope

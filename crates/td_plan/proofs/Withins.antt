@@ -4,20 +4,20 @@ use Rattle.std.proofs.lemmas.Bool.{eq-eqb, ltb-true}
 use Rattle.std.specs.List.{Contains, slice_get, zip}
 use Rattle.std.specs.Prelude.{nat_eq, nat_lt}
 use Rattle.td_algebra.proofs.Lists.{contains_first}
-use Rattle.td_eval.specs.AggregateValues.{aggregated_value, asked_of}
-use Rattle.td_eval.specs.OperatorValues.{on_relation, on_truth, on_tuple, postfix_value, restricted_value}
-use Rattle.td_eval.specs.Worlds.{World, known_outcome}
+use Rattle.td_eval.specs.model.AggregateValues.{aggregated_value, asked_of}
+use Rattle.td_eval.specs.model.OperatorValues.{on_relation, on_truth, on_tuple, postfix_value, restricted_value}
+use Rattle.td_eval.specs.model.Worlds.{World, known_outcome}
 use Rattle.td_group.specs.declared.aggregates.Agg.{Agg}
-use Rattle.td_plan.specs.Plans as plans
-use Rattle.td_plan.specs.Plans.{PlanTree, PlanTrees, Slots, dyadic_value, extension_of, looked_up, monadic_value, plan_columns, plan_value, plan_where_bound, selected_value, slots_before, summary_of, value_or, with_slot}
+use Rattle.td_plan.specs.code.Plans as plans
+use Rattle.td_plan.specs.code.Plans.{PlanTree, PlanTrees, Slots, dyadic_value, extension_of, looked_up, monadic_value, plan_columns, plan_value, plan_where_bound, selected_value, slots_before, summary_of, value_or, with_slot}
 use Rattle.td_plan.specs.code.Memos.{AgreeOn, AreOn, IsOn, IsWithin}
 use Rattle.td_plan.specs.code.Remembered.{AreAmong, AreAmongBefore, AreAmongBut, AreBefore}
 use Rattle.td_tree.specs.declared.operator.Aggregate.{Aggregate}
-use Rattle.td_tree.specs.Outcomes.{gathered, with_both, with_value}
-use Rattle.td_tree.specs.Trees.{Attributes, project}
-use Rattle.td_types.specs.Types.{Attribute}
+use Rattle.td_tree.specs.model.Outcomes.{gathered, with_both, with_value}
+use Rattle.td_tree.specs.model.Trees.{Attributes, project}
+use Rattle.td_types.specs.model.Types.{Attribute}
 use Rattle.td_value.specs.code.Views.{values_of}
-use Rattle.td_value.specs.Values.{Val}
+use Rattle.td_value.specs.model.Values.{Val}
 
 -- a plan that names these slots names those among which they are
 pub on_more : (a b : List ℕ) (p : PlanTree) → AreAmong a b → IsOn a p → IsOn b p

@@ -1,14 +1,15 @@
 //! Equalities of restrictions: each side may be computed in place of the other.
-ghost use Rattle.td_plan.specs.Equalities.{RestrictionAfterLookUp, RestrictionOfJoinOnLeft};
-ghost use Rattle.td_plan.specs.Equalities.{RestrictionOfJoinOnRight, RestrictionOfProductOnLeft};
-ghost use Rattle.td_plan.specs.Equalities.{RestrictionOfProductOnRight, ValuesAreTold};
-ghost use Rattle.td_plan.specs.EqualitiesOfNames.{NamesAreWhatIsAsked, ValuesDependOnNames};
-ghost use Rattle.td_plan.specs.EqualitiesOfValues.{AndIsOfBoth, EqualityIsOfOneValue};
-ghost use Rattle.td_plan.specs.EqualitiesOfValues.{TotalConditionsRestrict, WhereAfterLookUp};
-ghost use Rattle.td_plan.specs.EqualitiesOfValues.{WhereOfIntersectOnLeft, WhereOfJoinOnLeft};
-ghost use Rattle.td_plan.specs.EqualitiesOfValues.{WhereOfJoinOnRight, WhereOfMinus};
-ghost use Rattle.td_plan.specs.EqualitiesOfValues.{WhereOfTimesOnLeft, WhereOfTimesOnRight};
-ghost use Rattle.td_plan.specs.EqualitiesOfValues.{WhereOfUnion};
+ghost use Rattle.td_plan.specs.laws.Equalities.{RestrictionAfterLookUp, RestrictionOfJoinOnLeft};
+ghost use Rattle.td_plan.specs.laws.Equalities.{RestrictionOfJoinOnRight};
+ghost use Rattle.td_plan.specs.laws.Equalities.{RestrictionOfProductOnLeft};
+ghost use Rattle.td_plan.specs.laws.Equalities.{RestrictionOfProductOnRight, ValuesAreTold};
+ghost use Rattle.td_plan.specs.laws.EqualitiesOfNames.{NamesAreWhatIsAsked, ValuesDependOnNames};
+ghost use Rattle.td_plan.specs.laws.EqualitiesOfValues.{AndIsOfBoth, EqualityIsOfOneValue};
+ghost use Rattle.td_plan.specs.laws.EqualitiesOfValues.{TotalConditionsRestrict, WhereAfterLookUp};
+ghost use Rattle.td_plan.specs.laws.EqualitiesOfValues.{WhereOfIntersectOnLeft, WhereOfJoinOnLeft};
+ghost use Rattle.td_plan.specs.laws.EqualitiesOfValues.{WhereOfJoinOnRight, WhereOfMinus};
+ghost use Rattle.td_plan.specs.laws.EqualitiesOfValues.{WhereOfTimesOnLeft, WhereOfTimesOnRight};
+ghost use Rattle.td_plan.specs.laws.EqualitiesOfValues.{WhereOfUnion};
 
 /// A restriction of a join that asks, in the tuples of the join, of one operand's attributes alone
 /// is the join with that operand restricted.

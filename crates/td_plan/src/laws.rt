@@ -1,7 +1,7 @@
 //! What plans stand on: each function has its contract alone.
-ghost use Rattle.td_plan.specs.LaterRuns.{PlansServeTheirScope};
-ghost use Rattle.td_plan.specs.TotalConditions.{UnfailingConditionsAreTotal};
-ghost use Rattle.td_plan.specs.VirtualRelvars.{VirtualRelvarsAreTheirExpressions};
+ghost use Rattle.td_plan.specs.laws.LaterRuns.{PlansServeTheirScope};
+ghost use Rattle.td_plan.specs.laws.TotalConditions.{UnfailingConditionsAreTotal};
+ghost use Rattle.td_plan.specs.laws.VirtualRelvars.{VirtualRelvarsAreTheirExpressions};
 
 /// A plan may be run in another state than the one in which it was made, if it knows the same.
 pub fn plans_serve_their_scope()

@@ -1,18 +1,18 @@
 //! The values of expressions, by plans that are made of them and run.
 ghost use Rattle.std.specs.Prelude.{◌≡◌, IfSome, IsTrue, length};
-ghost use Rattle.td_eval.specs.OperatorValues.{of_relation, set_value};
-ghost use Rattle.td_eval.specs.code.Sights.{tuples_in_hand, world_in};
-ghost use Rattle.td_eval.specs.TreeValues.{value_of, values_in_tuples};
-ghost use Rattle.td_plan.specs.PlansOf.{IsPlanIfTyped, MeetsRules, PartsMeetRulesIn, scope_in};
+ghost use Rattle.td_eval.specs.model.OperatorValues.{of_relation, set_value};
+ghost use Rattle.td_eval.specs.code.LentWorlds.{tuples_in_hand, world_in};
+ghost use Rattle.td_eval.specs.model.TreeValues.{value_of, values_in_tuples};
+ghost use Rattle.td_plan.specs.code.PlansOf.{IsPlanIfTyped, MeetsRules, PartsMeetRulesIn, scope_in};
 ghost use Rattle.td_plan.specs.code.PlanViews.{plan_view};
-ghost use Rattle.td_tree.specs.Outcomes.{Answers, Outcome, with_value};
+ghost use Rattle.td_tree.specs.model.Outcomes.{Answers, Outcome, with_value};
 ghost use Rattle.td_tree.specs.code.TreeViews.{named_view, tree_view};
-ghost use Rattle.td_tree.specs.Trees.{name, restriction};
-ghost use Rattle.td_tree.specs.WrittenTrees.{PartsGiveNames, PartsHaveTexts};
-ghost use Rattle.td_types.specs.Headings.{are_distinct};
-ghost use Rattle.td_types.specs.Types.{attribute_names};
+ghost use Rattle.td_tree.specs.model.Trees.{name, restriction};
+ghost use Rattle.td_tree.specs.model.WrittenTrees.{PartsGiveNames, PartsHaveTexts};
+ghost use Rattle.td_types.specs.model.Headings.{are_distinct};
+ghost use Rattle.td_types.specs.model.Types.{attribute_names};
 ghost use Rattle.td_types.specs.code.Views.{pairs_view};
-ghost use Rattle.td_value.specs.Values.{Relation};
+ghost use Rattle.td_value.specs.model.Values.{Relation};
 
 use crate::making::closed::is_closed;
 use crate::making::plans::{plan, plan_in_relvar, plan_settings};
@@ -21,7 +21,7 @@ use crate::running::run_plan::run_valued;
 use std::alloc::Global;
 use td_body::body::Body;
 use td_eval::env::Env;
-use td_eval::operators::asked::relation_in;
+use td_eval::operators::requirements::relation_in;
 use td_eval::value::eval;
 use td_tree::expression::{Expr, NamedExpr};
 use td_tree::fault::Fault;

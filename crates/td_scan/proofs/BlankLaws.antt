@@ -3,14 +3,14 @@ use Rattle.std.proofs.Common.{◌≡◌, ℕ, zero, suc, ◌+◌, ◌<◌, List,
 use Rattle.std.specs.Prelude.{◌==◌, slice_index, if◌then◌else◌}
 use Rattle.std.specs.Char.{is_ascii_digit}
 use Rattle.td_tree.specs.declared.piece.Piece.TheVariants.{Bar, Blank, Number, OpenText}
-use Rattle.td_tree.specs.Names.{is_word_start}
-use Rattle.td_tree.specs.Pieces.{goes_on, is_blank, opens, sign_at, sign_or_word}
-use Rattle.td_tree.specs.Statements.{tokens}
-use Rattle.td_tree.specs.Symbols.{symbols}
+use Rattle.td_tree.specs.model.Names.{is_word_start}
+use Rattle.td_tree.specs.model.Pieces.{goes_on, is_blank, opens, sign_at, sign_or_word}
+use Rattle.td_tree.specs.model.Statements.{tokens}
+use Rattle.td_tree.specs.model.Symbols.{symbols}
 use Rattle.td_scan.specs.declared.piece.First.{First}
 use Rattle.td_scan.specs.code.Fronts.{end_from, first_end}
-use Rattle.td_scan.specs.code.Marks.{IsFirst}
-use Rattle.td_scan.proofs.MarkLaws.{tokens_known}
+use Rattle.td_scan.specs.code.Progress.{IsFirst}
+use Rattle.td_scan.proofs.ReadLaws.{tokens_known}
 use Rattle.td_scan.proofs.RunLaws.{ascii_known, whole}
 
 -- a blank begins a piece of its own

@@ -1,9 +1,9 @@
 -- Whatever list of calls was made, what was taken off are the first statements of all that was fed.
 use Rattle.std.proofs.Common.{◌≡◌, ℕ, ◌+◌, ◌-◌, List, [], ◌∷◌, ◌++◌, length, drop, refl, sym, ap, ◌∙◌, subst, arith, Bool, true, false, not, ◌&&◌, Some, None, append_assoc, append-nil, length-append, drop-drop, IsTrue}
 use Rattle.std.proofs.lemmas.List.{drop-append-le, length-drop}
-use Rattle.td_scan.specs.Calls.{Call, Course, at_first, statements_of, course_after, all_called, may_be_called}
-use Rattle.td_scan.specs.Calls.Call.{Feed, Finish, Take}
-use Rattle.td_tree.specs.Statements.{PlacedToken, Held, statements, first_statement, after, behind}
+use Rattle.td_scan.specs.laws.Calls.{Call, Course, at_first, statements_of, course_after, all_called, may_be_called}
+use Rattle.td_scan.specs.laws.Calls.Call.{Feed, Finish, Take}
+use Rattle.td_tree.specs.model.Statements.{PlacedToken, Held, statements, first_statement, after, behind}
 use Rattle.td_scan.proofs.TakenLaws.{after_none, first_and_after, first_and_later, no_statement, first_within}
 
 -- what was taken off and what is held are all that was fed

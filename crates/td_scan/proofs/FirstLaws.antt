@@ -5,11 +5,11 @@ use Rattle.std.proofs.lemmas.Bool.Decides.{nat_tests}
 use Rattle.std.proofs.lemmas.Grind.{flat_map-append}
 use Rattle.td_tree.specs.declared.piece.Piece.{Piece}
 use Rattle.td_tree.specs.declared.token.Kind.{Kind}
-use Rattle.td_tree.specs.Division.{run, divide, divide_from}
-use Rattle.td_tree.specs.Pieces.{begins, continues, pieces, kind_after, kind_of, state}
-use Rattle.td_tree.specs.Spans.{AreOfTheirKind}
-use Rattle.td_tree.specs.Statements.{PlacedToken, token_of, tokens, tokens_from}
-use Rattle.td_tree.specs.Symbols.{Symbol, symbols, spell}
+use Rattle.td_tree.specs.model.Division.{run, divide, divide_from}
+use Rattle.td_tree.specs.model.Pieces.{begins, continues, pieces, kind_after, kind_of, state}
+use Rattle.td_tree.specs.laws.Spans.{AreOfTheirKind}
+use Rattle.td_tree.specs.model.Statements.{PlacedToken, token_of, tokens, tokens_from}
+use Rattle.td_tree.specs.model.Symbols.{Symbol, symbols, spell}
 use Rattle.td_tree.proofs.law_lemmas.DivisionLaws.{state-append}
 use Rattle.td_tree.proofs.law_lemmas.PieceLaws.{size, taken_off}
 use Rattle.td_tree.proofs.law_lemmas.SliceLaws.{kinds}

@@ -1,6 +1,6 @@
 -- The tokens at the front of bytes that are told at once.
 use Rattle.std.proofs.Common.{◌≡◌, ℕ, ◌+◌, ◌<◌, zero, suc, List, ◌++◌, length, take, drop, refl, sym, ap, ◌∙◌, arith, Bool, true, false, Option, Some, None}
-use Rattle.std.specs.Prelude.{◌==◌, ◌||◌, not, slice_index}
+use Rattle.std.specs.Prelude.{◌==◌, ◌||◌, if◌then◌else◌, not, slice_index}
 use Rattle.std.proofs.lemmas.Bool.Decides.{nat_tests}
 use Rattle.std.proofs.lemmas.List.{get_or-drop, length-drop}
 use Rattle.std.specs.Char.{is_ascii_alphabetic, is_ascii_alphanumeric, is_ascii_digit}
@@ -10,13 +10,17 @@ use Rattle.td_tree.specs.declared.piece.Piece.TheVariants as pieces_are
 use Rattle.td_tree.specs.declared.token.Kind.{Kind}
 use Rattle.td_tree.specs.declared.token.Kind.TheVariants as kinds
 use Rattle.td_tree.specs.declared.token.Sign.{Sign}
-use Rattle.td_tree.specs.Pieces.{goes_on, kind_after, sign_goes_on, word_kind}
-use Rattle.td_tree.specs.Symbols.{symbols}
+use Rattle.td_tree.specs.model.Keywords.{keyword_of}
+use Rattle.td_tree.specs.model.Names.{begins_the}
+use Rattle.td_tree.specs.model.Pieces.{goes_on, kind_after, sign_goes_on, word_kind, word_kind_of}
+use Rattle.td_tree.specs.model.Statements.{is_end}
+use Rattle.td_tree.specs.model.Symbols.{symbols}
 use Rattle.td_scan.specs.declared.front.FirstToken.{FirstToken}
 use Rattle.td_scan.specs.declared.piece.First.{First}
 use Rattle.td_scan.specs.code.Fronts.{end_from}
-use Rattle.td_scan.specs.code.Marks.{IsBegun, IsFirst, IsToken, IsWholeSign}
-use Rattle.td_scan.proofs.MarkLaws.{mark_more}
+use Rattle.td_scan.specs.code.Progress.{IsBegun, IsFirst, IsOrdinary, IsToken, IsWholeSign, IsWord, is_bad_kind}
+use Rattle.td_scan.proofs.NoEnds.{word_is_none}
+use Rattle.td_scan.proofs.ReadLaws.{token_more}
 use Rattle.td_scan.proofs.RunLaws.{IsRun, ascii_begun, digit_opens, digit_run, ended, letter_opens, number_ends, plain_run, whole_first, word_ends}
 
 abbrev piece_of : ℕ → Piece → First
@@ -27,8 +31,7 @@ token_of n kind = record { length = n; kind = kind }
 
 -- a first piece that is a token
 pub token_is : (bs : List ℕ) (n : ℕ) (piece : Piece) (kind : Kind) → IsFirst bs (piece_of n piece) → kind_after piece (take n bs) ≡ Some kind → IsToken bs (token_of n kind)
-token_is bs n piece kind first is =
-    record { some = first.some; within = first.within; same = λ at later. mark_more bs (piece_of n piece) at kind first is later }
+token_is bs n piece kind first is = token_more bs (piece_of n piece) kind first is
 
 -- a piece that so many bytes leave as it is, and that the next one ends
 run_ends : (bs : List ℕ) (piece : Piece) (n : ℕ) → IsBegun bs (Some (piece_of 1 piece)) → IsRun piece bs 1 → IsRun piece bs n → 0 < n → n < length bs
@@ -65,17 +68,17 @@ other_than : (b : ℕ) → (b ≡ 35 → ⊥) → not (b == 35) ≡ true
 other_than b other = grind (arith, nat_tests)
 
 -- a word that another ASCII character ends
-pub word_is : (bs : List ℕ) (n : ℕ) (kind : Kind) → 0 < length bs → (is_ascii_alphabetic (slice_index bs 0) || (slice_index bs 0 == 95)) ≡ true
+pub word_is : (bs : List ℕ) (n : ℕ) → 0 < length bs → (is_ascii_alphabetic (slice_index bs 0) || (slice_index bs 0 == 95)) ≡ true
     → ((k : ℕ) → k < n → is_plain (slice_index bs k) ≡ true) → (n < length bs → is_plain (slice_index bs n) ≡ false)
-    → n < length bs → slice_index (drop n bs) 0 < 128 → (slice_index (drop n bs) 0 ≡ 35 → ⊥) → kind ≡ word_kind (take n bs) → IsToken bs (token_of n kind)
-word_is bs n kind some letter all stops less ascii other is =
+    → n < length bs → slice_index (drop n bs) 0 < 128 → (slice_index (drop n bs) 0 ≡ 35 → ⊥) → IsWord bs n
+word_is bs n some letter all stops less ascii other =
     let more : 0 < n = some_passes n bs is_plain some (letter_is_plain (slice_index bs 0) letter) stops in
     let same : slice_index (drop n bs) 0 ≡ slice_index bs n = get_or-drop n bs 0 0 ∙ ap (slice_index bs) (let k : n + 0 ≡ n = omega arith in k) in
     let begun = ascii_begun bs Word some (letter_is_ascii (slice_index bs 0) letter) (sym (letter_opens (slice_index bs 0) letter)) in
     let none = word_ends (slice_index (drop n bs) 0) ascii (ap not (ap is_plain same ∙ stops less)) (other_than (slice_index (drop n bs) 0) other) in
-    token_is bs n Word kind
+    token_is bs n Word (word_kind (take n bs))
     (run_ends bs Word n begun (plain_run bs 1 (omega arith) (λ k below. all k (omega arith))) (plain_run bs n (omega arith) all) more less ascii none)
-    (ap Some (sym is))
+    refl
 
 -- a number that another ASCII character ends
 pub number_is : (bs : List ℕ) (n : ℕ) → 0 < length bs → is_ascii_digit (slice_index bs 0) ≡ true
@@ -100,3 +103,21 @@ sign_is bs sign some whole =
     token_is bs 1 (pieces_are.Sign sign) (kinds.Sign sign)
     (whole_first bs (piece_of 1 (pieces_are.Sign sign)) (ascii_begun bs (pieces_are.Sign sign) some whole.ascii (sym whole.is)) (whole_sign sign whole.ends))
     refl
+
+-- ---- tokens that neither end a statement nor are bad
+
+word_is_good : (text : List ℕ) → is_bad_kind (word_kind text) ≡ false
+unfolding word_kind
+word_is_good text = elim (keyword_of text) as (λ o. is_bad_kind (word_kind_of o (begins_the text)) ≡ false) [
+  | Some keyword ↦ refl
+  | None ↦ (elim (begins_the text) as (λ b. is_bad_kind (if b then kinds.Component else kinds.Name) ≡ false) [ true ↦ refl | false ↦ refl ])
+]
+
+pub ordinary_word : (bs : List ℕ) (n : ℕ) → IsWord bs n → IsOrdinary bs n
+ordinary_word bs n word = record { kind = word_kind (take n bs); good = word_is_good (take n bs); unended = word_is_none (take n bs); token = word }
+
+pub ordinary_number : (bs : List ℕ) (n : ℕ) → IsToken bs (token_of n kinds.Number) → IsOrdinary bs n
+ordinary_number bs n number = record { kind = kinds.Number; good = refl; unended = refl; token = number }
+
+pub ordinary_sign : (bs : List ℕ) (sign : Sign) → 0 < length bs → IsWholeSign (slice_index bs 0) sign → is_end (kinds.Sign sign) ≡ false → IsOrdinary bs 1
+ordinary_sign bs sign some whole unended = record { kind = kinds.Sign sign; good = refl; unended = unended; token = sign_is bs sign some whole }

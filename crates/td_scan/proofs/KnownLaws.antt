@@ -4,7 +4,7 @@ use Rattle.std.specs.Prelude.{◌||◌, if◌then◌else◌, nat_lt, slice_get}
 use Rattle.std.specs.List.{list_any}
 use Rattle.std.specs.Str.{chars, is_utf8}
 use Rattle.std.proofs.lemmas.Bool.Decides.{nat_tests}
-use Rattle.td_tree.specs.Symbols.{symbol_at, symbol_of}
+use Rattle.td_tree.specs.model.Symbols.{symbol_at, symbol_of}
 use Rattle.td_tree.proofs.law_lemmas.FrontLaws.{ascii_bytes}
 use Rattle.td_tree.proofs.law_lemmas.SymbolLaws.{same_symbol}
 use Rattle.td_scan.specs.code.Fronts.{IsKnown}

@@ -2,7 +2,7 @@
 use Rattle.std.proofs.Common.{◌≡◌, ◌-◌, ℕ, suc, List, [], ◌∷◌, length, drop, Option, Some, None, IfSome, refl, sym, ap, ◌∙◌, arith}
 use Rattle.std.specs.Prelude.{option_map, slice_get}
 use Rattle.td_scan.specs.code.Fronts.{end_of_last}
-use Rattle.td_tree.specs.Statements.{PlacedToken, Held, after, behind, end_of, first_statement}
+use Rattle.td_tree.specs.model.Statements.{PlacedToken, Held, after, behind, end_of, first_statement}
 use Rattle.td_scan.proofs.TakenLaws.{behind_first, fewer_bytes}
 
 -- ---- the last token

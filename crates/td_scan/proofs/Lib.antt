@@ -1,13 +1,13 @@
 pub mod BlankLaws
 pub mod CourseLaws
+pub mod Ends
 pub mod FirstLaws
 pub mod FrontLaws
-pub mod HeldMarks
+pub mod HeldReads
 pub mod KnownLaws
 pub mod LastLaws
-pub mod MarkLaws
-pub mod MarkLists
 pub mod NoEnds
+pub mod ReadLaws
 pub mod RunLaws
 pub mod ScanLaws
 pub mod TakenLaws

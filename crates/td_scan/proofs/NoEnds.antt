@@ -11,24 +11,24 @@ use Rattle.td_tree.specs.declared.token.Kind.{Kind}
 use Rattle.td_tree.specs.declared.token.Kind.TheVariants as kinds
 use Rattle.td_tree.specs.declared.token.Sign.{Sign}
 use Rattle.td_tree.specs.declared.token.Sign.TheVariants as signs
-use Rattle.td_tree.specs.Division.{up_to}
-use Rattle.td_tree.specs.Keywords.{keyword_of}
-use Rattle.td_tree.specs.Names.{begins_the, is_word_more}
-use Rattle.td_tree.specs.Pieces.{begins, continues, goes_on, is_character, kind_after, passes, sign_goes_on, text_kind, word_kind, word_kind_of}
-use Rattle.td_tree.specs.Statements.{PlacedToken, ends, is_end, token_of, tokens}
-use Rattle.td_tree.specs.Symbols.{Symbol, front_bytes, front_char, symbol_at, symbol_of, symbols, symbols_from}
+use Rattle.td_tree.specs.model.Division.{up_to}
+use Rattle.td_tree.specs.model.Keywords.{keyword_of}
+use Rattle.td_tree.specs.model.Names.{begins_the, is_word_more}
+use Rattle.td_tree.specs.model.Pieces.{begins, continues, goes_on, is_character, kind_after, passes, sign_goes_on, text_kind, word_kind, word_kind_of}
+use Rattle.td_tree.specs.model.Statements.{PlacedToken, ends, is_end, token_of, tokens}
+use Rattle.td_tree.specs.model.Symbols.{Symbol, front_bytes, front_char, symbol_at, symbol_of, symbols, symbols_from}
 use Rattle.td_tree.proofs.law_lemmas.FrontLaws.{ascii_byte}
 use Rattle.td_tree.proofs.law_lemmas.KindLaws.{as_spelled}
 use Rattle.td_tree.proofs.code_lemmas.StableBytes.{cuts}
 use Rattle.td_tree.proofs.law_lemmas.StatementLaws.{is_end_of}
 use Rattle.td_scan.specs.code.Fronts.{end_from, first_end}
-use Rattle.td_scan.specs.code.Marks.{IsBegun, is_end_piece}
+use Rattle.td_scan.specs.code.Progress.{IsBegun, is_end_piece}
 use Rattle.td_scan.specs.declared.piece.First.{First}
 use Rattle.td_scan.proofs.FirstLaws.{first_within, no_bytes, tokens_of_first}
 
 -- ---- pieces that are no `;`
 
-word_is_none : (text : List ℕ) → is_end (word_kind text) ≡ false
+pub word_is_none : (text : List ℕ) → is_end (word_kind text) ≡ false
 unfolding word_kind
 word_is_none text = elim (keyword_of text) as (λ o. is_end (word_kind_of o (begins_the text)) ≡ false) [
   | Some keyword ↦ refl

@@ -12,15 +12,15 @@ use Rattle.td_tree.specs.declared.piece.Piece.{Piece}
 use Rattle.td_tree.specs.declared.piece.Piece.TheVariants.{Bar, Blank, Word, Number, OpenText, Text, LineComment, OpenComment, StarredComment}
 use Rattle.td_tree.specs.declared.token.Kind.TheVariants as kinds
 use Rattle.td_tree.specs.declared.token.Sign.{Sign}
-use Rattle.td_tree.specs.Keywords.{keyword_of, keywords, word_of}
-use Rattle.td_tree.specs.Names.{begins_the, is_word_more, is_word_start}
-use Rattle.td_tree.specs.Pieces.{goes_on, is_blank, opens, sign_at, sign_or_word, word_kind, word_kind_of}
-use Rattle.td_tree.specs.Symbols.{Symbol, symbols}
+use Rattle.td_tree.specs.model.Keywords.{keyword_of, keywords, word_of}
+use Rattle.td_tree.specs.model.Names.{begins_the, is_word_more, is_word_start}
+use Rattle.td_tree.specs.model.Pieces.{goes_on, is_blank, opens, sign_at, sign_or_word, word_kind, word_kind_of}
+use Rattle.td_tree.specs.model.Symbols.{Symbol, symbols}
 use Rattle.td_tree.proofs.law_lemmas.SymbolLaws.{front_ascii}
 use Rattle.td_tree.proofs.law_lemmas.WordStarts.{ascii_more, ascii_start, start_no_bar, start_no_blank, start_no_digit, start_no_quote, start_no_sign}
 use Rattle.td_scan.specs.code.Fronts.{end_from, first_end}
 use Rattle.td_scan.specs.declared.piece.First.{First}
-use Rattle.td_scan.specs.code.Marks.{IsBegun, IsFirst}
+use Rattle.td_scan.specs.code.Progress.{IsBegun, IsFirst}
 
 abbrev symbol : Option ℕ → List ℕ → Symbol
 symbol character text = record { character = character; text = text }

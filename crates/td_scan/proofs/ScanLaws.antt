@@ -1,10 +1,10 @@
 -- The first statement, gathered token by token, and where it ends.
 use Rattle.std.proofs.Common.{◌≡◌, ℕ, List, [], ◌∷◌, ◌++◌, refl, sym, ap, ◌∙◌, Bool, true, false, Option, Some, None, if◌then◌else◌, append_assoc, append-nil}
 use Rattle.std.specs.Prelude.{option_map}
-use Rattle.td_tree.specs.Division.{up_to}
-use Rattle.td_scan.specs.code.Marks.{end_of_statement}
-use Rattle.td_scan.proofs.MarkLists.{past_none}
-use Rattle.td_tree.specs.Statements.{PlacedToken, Held, tokens, ends, statement_or_rest, first_statement, end_of, end_of_first, behind}
+use Rattle.td_tree.specs.model.Division.{up_to}
+use Rattle.td_scan.specs.code.Progress.{end_of_statement}
+use Rattle.td_scan.proofs.Ends.{past_none}
+use Rattle.td_tree.specs.model.Statements.{PlacedToken, Held, tokens, ends, statement_or_rest, first_statement, end_of, end_of_first, behind}
 
 -- the first statement of what was found so far and what is left
 abbrev pub gathered : Bool → List PlacedToken → List PlacedToken → Option (List PlacedToken)

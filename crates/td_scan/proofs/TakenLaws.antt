@@ -1,11 +1,11 @@
 -- What is taken off is the first of the statements, and the others are those of what is still held.
 use Rattle.std.proofs.Common.{◌≡◌, ℕ, ◌+◌, ◌-◌, ◌<◌, ◌≤◌, List, [], ◌∷◌, ◌++◌, length, drop, refl, sym, ap, ◌∙◌, subst, arith, Bool, true, false, Option, Some, None, length-drop, ◌⊎◌, inl, inr, ⊎_elim}
-use Rattle.td_tree.specs.Division.{up_to}
-use Rattle.td_tree.specs.Statements.{PlacedToken, Held, tokens, ends, split, statements, statement_or_rest, first_statement, end_of, end_of_first, behind, after}
+use Rattle.td_tree.specs.model.Division.{up_to}
+use Rattle.td_tree.specs.model.Statements.{PlacedToken, Held, tokens, ends, split, statements, statement_or_rest, first_statement, end_of, end_of_first, behind, after}
 use Rattle.td_tree.proofs.law_lemmas.StatementLaws.{left, split-left, split-first, split_first}
 use Rattle.td_tree.proofs.law_lemmas.TokenLaws.{ascends}
 use Rattle.td_tree.proofs.law_lemmas.EndLaws.{up_to_cases}
-use Rattle.td_tree.specs.Spans.{Ascends}
+use Rattle.td_tree.specs.laws.Spans.{Ascends}
 use Rattle.td_tree.proofs.law_lemmas.HeldLaws.{follows, statements_later, none_behind, last_within}
 
 -- all was fed, and these tokens are left

@@ -1,14 +1,11 @@
 //! The tokens at the front of bytes that are told at once: most are words, numbers and signs in
 //! ASCII, with another ASCII character behind them.
-ghost use Rattle.std.specs.Prelude.{◌≡◌, ◌==◌, ◌||◌, ◌+◌, ◌<◌, ◌^◌, IfOk, IfSome, OnErr};
-ghost use Rattle.std.specs.Prelude.{length, slice_index, take, true};
+ghost use Rattle.std.specs.Prelude.{◌≡◌, ◌==◌, ◌||◌, ◌<◌, IfSome, length, slice_index, true};
 ghost use Rattle.std.specs.Char.{is_ascii_alphabetic, is_ascii_digit};
-ghost use Rattle.td_scan.specs.code.Marks.{AreRead, IsToken, IsWholeSign};
+ghost use Rattle.td_scan.specs.code.Progress.{IsOrdinary, IsToken, IsWholeSign, IsWord};
 
-use crate::queue::Queue;
-use crate::run::{begins_word, blank_length, digit_length, plain_length, word_kind};
-use crate::token::Mark;
-use std::alloc::AllocError;
+use crate::reading::is_end;
+use crate::run::{begins_word, digit_length, plain_length, word_kind};
 use td_tree::token::{Kind, Sign};
 
 /// The first token of bytes: how many of them it takes, and what it is.
@@ -18,45 +15,39 @@ pub(crate) struct FirstToken {
     pub(crate) kind: Kind,
 }
 
-/// The word at the front, where an ASCII character ends it.
+/// How many bytes the word at the front takes, where an ASCII character ends it.
 #[inline]
-fn word_at_front(bytes: &[u8]) -> Option<FirstToken>
+fn word_length(bytes: &[u8]) -> Option<usize>
     requires some { 0 < length bytes.now }
     requires word { let b = slice_index bytes.now 0
         in (is_ascii_alphabetic b || (b == 95)) ≡ true }
-    ensures { IfSome result (λ token. IsToken bytes.now token) }
+    ensures { IfSome result (IsWord bytes.now) }
 {
     let length = plain_length(bytes);
-    let (text, behind) = bytes.split_at(length);
+    let (_, behind) = bytes.split_at(length);
     if behind.is_empty() || behind[0] >= 128 || behind[0] == b'#' {
         return None;
     }
-    Some(FirstToken {
-        length,
-        kind: word_kind(text),
-    })
+    Some(length)
 }
 
-/// The number at the front, where an ASCII character ends it.
+/// How many bytes the number at the front takes, where an ASCII character ends it.
 #[inline]
-fn number_at_front(bytes: &[u8]) -> Option<FirstToken>
+fn number_length(bytes: &[u8]) -> Option<usize>
     requires some { 0 < length bytes.now }
     requires digit { is_ascii_digit (slice_index bytes.now 0) ≡ true }
-    ensures { IfSome result (λ token. IsToken bytes.now token) }
+    ensures { IfSome result (λ n. IsToken bytes.now (record { length = n; kind = Kind.Number })) }
 {
     let length = digit_length(bytes);
     let (_, behind) = bytes.split_at(length);
     if behind.is_empty() || behind[0] >= 128 {
         return None;
     }
-    Some(FirstToken {
-        length,
-        kind: Kind::Number,
-    })
+    Some(length)
 }
 
 /// The sign that the byte is, where no longer one begins with it.
-#[tactic(auto, unfolding(td_tree::specs::Pieces::opens, td_tree::specs::Pieces::sign_at, td_tree::specs::Pieces::sign_goes_on))]
+#[tactic(auto, unfolding(td_tree::specs::model::Pieces::opens, td_tree::specs::model::Pieces::sign_at, td_tree::specs::model::Pieces::sign_goes_on))]
 #[inline]
 fn whole_sign(byte: u8) -> Option<Sign>
     ensures { IfSome result (λ sign. IsWholeSign byte sign) }
@@ -78,7 +69,7 @@ fn whole_sign(byte: u8) -> Option<Sign>
 
 /// The token at the front, where it is a word, a number or a sign that is told at once.
 #[inline]
-fn token_at_front(bytes: &[u8]) -> Option<FirstToken>
+pub(crate) fn token_at_front(bytes: &[u8]) -> Option<FirstToken>
     ensures { IfSome result (λ token. IsToken bytes.now token) }
 {
     if bytes.is_empty() {
@@ -86,49 +77,39 @@ fn token_at_front(bytes: &[u8]) -> Option<FirstToken>
     }
     let byte = bytes[0];
     if begins_word(byte) {
-        return word_at_front(bytes);
+        let length = word_length(bytes)?;
+        let kind = word_kind(bytes.split_at(length).0);
+        return Some(FirstToken { length, kind });
     }
     if byte.is_ascii_digit() {
-        return number_at_front(bytes);
+        let length = number_length(bytes)?;
+        let kind = Kind::Number;
+        return Some(FirstToken { length, kind });
     }
     let sign = whole_sign(byte)?;
-    Some(FirstToken {
-        length: 1,
-        kind: Kind::Sign(sign),
-    })
+    let kind = Kind::Sign(sign);
+    Some(FirstToken { length: 1, kind })
 }
 
-/// Puts the mark of the first token behind the others, and those of the tokens behind it that are
-/// told at once: where the reading then stands, with the blanks behind each of them read.
-pub(crate) fn read_tokens(
-    marks: &mut Queue<Mark>,
-    bytes: &[u8],
-    offset: u64,
-    first: FirstToken,
-) -> Result<u64, AllocError>
-    requires room { offset + length bytes.now < 2 ^ 64 }
-    requires first { IsToken bytes.now first }
-    ensures read { IfOk result (λ place. AreRead marks.old marks.new offset bytes.now place) }
-    ensures further { IfOk result (λ place. offset < place) }
-    ensures err { OnErr result (take (length marks.old) marks.new ≡ marks.old) }
+/// How many bytes the token at the front takes, where it is a word, a number or a sign that is told
+/// at once, but no `;`.
+#[inline]
+pub(crate) fn ordinary_length(bytes: &[u8]) -> Option<usize>
+    ensures { IfSome result (IsOrdinary bytes.now) }
 {
-    let mut token = first;
-    let mut start = offset;
-    let mut rest = bytes;
-    loop {
-        let stop = start + token.length as u64;
-        marks.push(Mark {
-            kind: token.kind,
-            start,
-            stop,
-        })?;
-        let (_, after) = rest.split_at(token.length);
-        let blanks = blank_length(after);
-        start = stop + blanks as u64;
-        rest = after.split_at(blanks).1;
-        token = match token_at_front(rest) {
-            Some(next) => next,
-            None => return Ok(start),
-        };
+    if bytes.is_empty() {
+        return None;
     }
+    let byte = bytes[0];
+    if begins_word(byte) {
+        return word_length(bytes);
+    }
+    if byte.is_ascii_digit() {
+        return number_length(bytes);
+    }
+    let sign = whole_sign(byte)?;
+    if is_end(Kind::Sign(sign)) {
+        return None;
+    }
+    Some(1)
 }

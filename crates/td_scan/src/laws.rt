@@ -1,7 +1,8 @@
 //! Laws of lists of calls of a cutter.
 ghost use Rattle.std.specs.Prelude.{◌≡◌, ◌++◌, ℕ, List, IsFalse, IsNone, IsTrue};
-ghost use Rattle.td_scan.specs.Calls.{Call, IsAllowed, course, statements_before, statements_held};
-ghost use Rattle.td_tree.specs.Statements.{first_statement, statements};
+ghost use Rattle.td_scan.specs.laws.Calls.{Call, IsAllowed, course, statements_before};
+ghost use Rattle.td_scan.specs.laws.Calls.{statements_held};
+ghost use Rattle.td_tree.specs.model.Statements.{first_statement, statements};
 
 /// Whatever calls were made, the statements taken off are the first of all the bytes that were fed,
 /// and the others are those of what is still held.

@@ -1,9 +1,9 @@
 //! The piece at the front of bytes.
 ghost use Rattle.std.specs.Prelude.{◌≡◌, ◌<◌, ◌≤◌, ◌+◌, ◌++◌, ℕ, length, take, drop};
 ghost use Rattle.td_scan.specs.code.Fronts.{first_end};
-ghost use Rattle.td_tree.specs.Pieces.{kind_after};
-ghost use Rattle.td_tree.specs.Statements.{token_of, tokens};
-ghost use Rattle.td_tree.specs.Symbols.{symbols};
+ghost use Rattle.td_tree.specs.model.Pieces.{kind_after};
+ghost use Rattle.td_tree.specs.model.Statements.{token_of, tokens};
+ghost use Rattle.td_tree.specs.model.Symbols.{symbols};
 
 use crate::symbol::symbol_at_front;
 use td_tree::piece::Piece;

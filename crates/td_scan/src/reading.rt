@@ -1,23 +1,19 @@
 //! Reading bytes behind which others may come: what is known stays.
-ghost use Rattle.std.specs.Prelude.{◌≡◌, ◌+◌, ◌-◌, ◌<◌, ◌≤◌, ◌^◌, ◌++◌, ℕ, List, IfOk};
-ghost use Rattle.std.specs.Prelude.{IfErr, IfNone, IsFalse, IsTrue, None, OnErr, OnOk, drop};
-ghost use Rattle.std.specs.Prelude.{length, take};
+ghost use Rattle.std.specs.Prelude.{◌≡◌, ◌+◌, ◌-◌, ◌<◌, ◌≤◌, ◌^◌, ◌++◌, ◌||◌, ℕ, List, IfOk};
+ghost use Rattle.std.specs.Prelude.{IfErr, IfNone, IsFalse, IsTrue, None, drop, false, length};
 ghost use Rattle.td_scan.specs.code.Fronts.{end_from};
-ghost use Rattle.td_scan.specs.code.Marks.{AreRead, IsBegun, IsFirst, IsRead, is_end_piece};
-ghost use Rattle.td_scan.specs.code.Marks.{read_of};
-ghost use Rattle.td_tree.specs.Division.{up_to};
-ghost use Rattle.td_tree.specs.Statements.{ends, tokens};
-ghost use Rattle.td_tree.specs.Symbols.{symbols};
+ghost use Rattle.td_scan.specs.code.Progress.{GoesOn, IsBegun, IsFirst, is_bad_kind, is_end_piece};
+ghost use Rattle.td_scan.specs.code.Progress.{past_token, read_of, unread};
+ghost use Rattle.td_tree.specs.model.Division.{up_to};
+ghost use Rattle.td_tree.specs.model.Statements.{ends, is_end, tokens};
+ghost use Rattle.td_tree.specs.model.Symbols.{symbols};
 
-use crate::front::{FirstToken, read_tokens};
+use crate::front::ordinary_length;
 use crate::piece::First;
-use crate::queue::Queue;
 use crate::run::{blank_length, is_ended, is_whole, kind, opens_ascii, run_length};
 use crate::symbol::known_front;
-use crate::token::Mark;
-use std::alloc::AllocError;
 use td_tree::piece::Piece;
-use td_tree::token::Sign;
+use td_tree::token::{Kind, Sign};
 
 /// How far a piece goes in some bytes.
 #[derive(Clone, Copy)]
@@ -123,37 +119,112 @@ fn first_known(begun: Option<First>, bytes: &[u8]) -> Result<First, Option<First
     }
 }
 
-/// Where the reading of a script stands: the pieces before are read, and so much of the next one.
+/// How far the first statement of some bytes was read. The bytes begin at an offset of a script.
 #[derive(Clone, Copy)]
-pub(crate) struct Place {
+pub(crate) struct Reading {
+    /// How many of its tokens were read to their ends.
+    pub(crate) count: usize,
+    /// Whether one of them is bad.
+    pub(crate) is_bad: bool,
+    /// Whether the last of them is the `;` that ends the statement.
+    pub(crate) is_whole: bool,
+    /// Where the reading stands: the pieces before are read, and so much of the next one.
     pub(crate) start: u64,
     pub(crate) begun: Option<First>,
 }
 
-/// Puts the mark of the first piece behind the others, if it is a token, and those of the tokens
-/// behind it that are told at once: where the reading then stands.
-fn read_piece(
-    marks: &mut Queue<Mark>,
-    bytes: &[u8],
-    start: u64,
-    first: First,
-) -> Result<u64, AllocError>
-    requires room { start + length bytes.now < 2 ^ 64 }
-    requires first { IsFirst bytes.now first }
-    ensures read { IfOk result (λ place. AreRead marks.old marks.new start bytes.now place) }
-    ensures further { IfOk result (λ place. start < place) }
-    ensures err { OnErr result (take (length marks.old) marks.new ≡ marks.old) }
+impl Reading {
+    /// Nothing of a statement that begins there.
+    pub(crate) fn unread(start: u64) -> Reading
+        ensures { result ≡ unread start }
+    {
+        Reading {
+            count: 0,
+            is_bad: false,
+            is_whole: false,
+            start,
+            begun: None,
+        }
+    }
+
+    /// The reading once a token of this kind was read, behind which it stands.
+    fn past_token(self, kind: Kind, start: u64) -> Reading
+        requires { self.count + 1 < 2 ^ 64 }
+        ensures { result ≡ past_token self kind start }
+    {
+        Reading {
+            count: self.count + 1,
+            is_bad: self.is_bad || is_bad(kind),
+            is_whole: is_end(kind),
+            start,
+            begun: None,
+        }
+    }
+}
+
+/// Whether a token of this kind ends a statement.
+pub(crate) fn is_end(kind: Kind) -> bool
+    ensures { result ≡ is_end kind }
 {
-    let (text, after) = bytes.split_at(first.length);
-    let Some(kind) = kind(first.piece, text) else {
-        let blanks = blank_length(after);
-        return Ok(start + first.length as u64 + blanks as u64);
-    };
-    let token = FirstToken {
-        length: first.length,
-        kind,
-    };
-    read_tokens(marks, bytes, start, token)
+    matches!(kind, Kind::Sign(Sign::Semicolon))
+}
+
+/// Whether a token of this kind is bad.
+fn is_bad(kind: Kind) -> bool
+    ensures { result ≡ is_bad_kind kind }
+{
+    matches!(kind, Kind::Bad)
+}
+
+/// Reads the first piece of the bytes.
+fn past_piece(reading: Reading, bytes: &[u8], first: First) -> Reading
+    requires room { reading.start + length bytes.now < 2 ^ 64 }
+    requires counted { reading.count ≤ reading.start }
+    requires unended { reading.is_whole ≡ false }
+    requires first { IsFirst bytes.now first }
+    ensures read { GoesOn reading result bytes.now }
+    ensures further { reading.start < result.start }
+    ensures behind { result.begun ≡ None }
+{
+    let (text, _) = bytes.split_at(first.length);
+    let start = reading.start + first.length as u64;
+    match kind(first.piece, text) {
+        Some(kind) => reading.past_token(kind, start),
+        None => Reading {
+            start,
+            begun: None,
+            ..reading
+        },
+    }
+}
+
+/// Reads the tokens at the front that are told at once, up to a `;`, and the blanks before and
+/// behind them.
+fn past_ordinary(reading: Reading, bytes: &[u8]) -> Reading
+    requires room { reading.start + length bytes.now < 2 ^ 64 }
+    requires counted { reading.count ≤ reading.start }
+    requires unended { reading.is_whole ≡ false }
+    requires behind { reading.begun ≡ None }
+    ensures { GoesOn reading result bytes.now }
+{
+    let mut count = reading.count;
+    let mut start = reading.start;
+    let mut rest = bytes;
+    loop {
+        let blanks = blank_length(rest);
+        start += blanks as u64;
+        rest = rest.split_at(blanks).1;
+        let Some(length) = ordinary_length(rest) else {
+            return Reading {
+                count,
+                start,
+                ..reading
+            };
+        };
+        count += 1;
+        start += length as u64;
+        rest = rest.split_at(length).1;
+    }
 }
 
 /// The bytes from a place on.
@@ -165,31 +236,42 @@ pub(crate) fn bytes_from(bytes: &[u8], offset: u64, start: u64) -> &[u8]
     bytes.split_at((start - offset) as usize).1
 }
 
-/// Reads on from a place, puts the marks of the tokens that end behind the others, and answers
-/// where the reading then stands.
-pub(crate) fn read_on(
-    marks: &mut Queue<Mark>,
-    bytes: &[u8],
-    place: Place,
-) -> Result<Place, AllocError>
-    requires room { place.start + length bytes.now < 2 ^ 64 }
-    requires begun { IsBegun bytes.now place.begun }
-    ensures read { IfOk result (λ p. IsRead marks.old marks.new place.start bytes.now p) }
-    ensures err { OnErr result (take (length marks.old) marks.new ≡ marks.old) }
+/// Reads the first piece of the bytes, and what is told at once behind it.
+fn past_pieces(reading: Reading, bytes: &[u8], first: First) -> Reading
+    requires room { reading.start + length bytes.now < 2 ^ 64 }
+    requires counted { reading.count ≤ reading.start }
+    requires unended { reading.is_whole ≡ false }
+    requires first { IsFirst bytes.now first }
+    ensures read { GoesOn reading result bytes.now }
+    ensures further { reading.start < result.start }
 {
-    let mut start = place.start;
-    let mut rest = bytes;
-    let mut begun = place.begun;
-    loop {
-        let first = match first_known(begun, rest) {
-            Ok(first) => first,
-            Err(begun) => return Ok(Place { start, begun }),
-        };
-        let reached = read_piece(marks, rest, start, first)?;
-        rest = bytes_from(rest, start, reached);
-        start = reached;
-        begun = None;
+    let past = past_piece(reading, bytes, first);
+    if past.is_whole {
+        return past;
     }
+    past_ordinary(past, bytes_from(bytes, reading.start, past.start))
+}
+
+/// Reads on in a statement, up to its end or as far as the bytes tell.
+pub(crate) fn read_on(reading: Reading, bytes: &[u8]) -> Reading
+    requires room { reading.start + length bytes.now < 2 ^ 64 }
+    requires counted { reading.count ≤ reading.start }
+    requires unended { reading.is_whole ≡ false }
+    requires begun { IsBegun bytes.now reading.begun }
+    ensures { GoesOn reading result bytes.now }
+{
+    let mut so_far = reading;
+    let mut rest = bytes;
+    while !so_far.is_whole {
+        let first = match first_known(so_far.begun, rest) {
+            Ok(first) => first,
+            Err(begun) => return Reading { begun, ..so_far },
+        };
+        let past = past_pieces(so_far, rest, first);
+        rest = bytes_from(rest, so_far.start, past.start);
+        so_far = past;
+    }
+    so_far
 }
 
 /// Whether the piece is a `;`.

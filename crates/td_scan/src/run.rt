@@ -3,10 +3,10 @@ ghost use Rattle.std.specs.Prelude.{◌≡◌, ◌==◌, ◌||◌, ◌+◌, ◌<
 ghost use Rattle.std.specs.Prelude.{Option, Some, drop, false, length, slice_index, true};
 ghost use Rattle.std.specs.Char.{is_ascii_alphabetic, is_ascii_alphanumeric, is_ascii_digit};
 ghost use Rattle.td_scan.specs.code.Fronts.{end_from};
-ghost use Rattle.td_tree.specs.Pieces.{goes_on, is_blank, kind_after, opens, sign_goes_on};
-ghost use Rattle.td_tree.specs.Pieces.{word_kind};
-ghost use Rattle.td_tree.specs.Statements.{tokens};
-ghost use Rattle.td_tree.specs.Symbols.{symbols};
+ghost use Rattle.td_tree.specs.model.Pieces.{goes_on, is_blank, kind_after, opens, sign_goes_on};
+ghost use Rattle.td_tree.specs.model.Pieces.{word_kind};
+ghost use Rattle.td_tree.specs.model.Statements.{tokens};
+ghost use Rattle.td_tree.specs.model.Symbols.{symbols};
 
 use td_tree::keyword::Keyword;
 use td_tree::piece::Piece;
@@ -21,7 +21,7 @@ pub(crate) fn begins_word(byte: u8) -> bool
 }
 
 /// The piece that an ASCII character begins.
-#[tactic(auto, unfolding(td_tree::specs::Pieces::opens, td_tree::specs::Pieces::sign_at))]
+#[tactic(auto, unfolding(td_tree::specs::model::Pieces::opens, td_tree::specs::model::Pieces::sign_at))]
 #[inline]
 pub(crate) fn opens_ascii(byte: u8) -> Piece
     requires { byte < 128 }
@@ -109,7 +109,7 @@ pub(crate) fn kind(piece: Piece, text: &[u8]) -> Option<Kind>
 }
 
 /// Whether the sign goes on with no symbol.
-#[tactic(auto, unfolding(td_tree::specs::Pieces::sign_goes_on))]
+#[tactic(auto, unfolding(td_tree::specs::model::Pieces::sign_goes_on))]
 #[inline]
 fn is_whole_sign(sign: Sign) -> bool
     ensures { IsTrue result → (c : Option ℕ) → sign_goes_on sign c ≡ None }
@@ -121,7 +121,7 @@ fn is_whole_sign(sign: Sign) -> bool
 }
 
 /// Whether the piece goes on with no symbol.
-#[tactic(auto, unfolding(td_tree::specs::Pieces::goes_on))]
+#[tactic(auto, unfolding(td_tree::specs::model::Pieces::goes_on))]
 #[inline]
 pub(crate) fn is_whole(piece: Piece) -> bool
     ensures { IsTrue result → (c : Option ℕ) → goes_on piece c ≡ None }

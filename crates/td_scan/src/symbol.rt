@@ -3,7 +3,7 @@ ghost use Rattle.std.specs.Prelude.{◌≡◌, ◌<◌, ◌≤◌, ◌∷◌, �
 ghost use Rattle.std.specs.Prelude.{IsFalse, IsTrue, drop, length, nat_lt, take};
 ghost use Rattle.std.specs.List.{list_any};
 ghost use Rattle.td_scan.specs.code.Fronts.{IsKnown, char_size};
-ghost use Rattle.td_tree.specs.Symbols.{front_bytes, front_char, symbols};
+ghost use Rattle.td_tree.specs.model.Symbols.{front_bytes, front_char, symbols};
 
 /// What stands at the front: its character, if it is one, and how many bytes it takes.
 #[derive(Clone, Copy)]

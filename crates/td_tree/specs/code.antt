@@ -1,6 +1,8 @@
 pub mod CauseCode
 pub mod Copies
 pub mod Fronts
+pub mod Gatherings
+pub mod Hashes
 pub mod Initials
 pub mod NodeCode
 pub mod TreeCode

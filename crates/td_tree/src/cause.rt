@@ -1,6 +1,6 @@
 //! The causes for which a statement is refused.
 ghost use Rattle.std.specs.Prelude.{◌≡◌};
-ghost use Rattle.td_tree.specs.Causes.{name_of, number_of};
+ghost use Rattle.td_tree.specs.model.Causes.{name_of, number_of};
 
 use std::error::Error;
 use std::fmt::{Display, Formatter, Write};

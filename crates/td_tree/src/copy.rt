@@ -1,7 +1,7 @@
 //! Copies of types and expressions. A text and a name share their bytes with their copies.
 ghost use Rattle.std.specs.Prelude.{◌≡◌, IfOk, map};
 ghost use Rattle.td_tree.specs.code.Copies.{Boxed};
-ghost use Rattle.td_tree.specs.Trees as trees;
+ghost use Rattle.td_tree.specs.model.Trees as trees;
 ghost use Rattle.td_tree.specs.code.TreeViews.{attributes_view, heading_tree_view, literal_view};
 ghost use Rattle.td_tree.specs.code.TreeViews.{named_view, postfix_view, renaming_view};
 ghost use Rattle.td_tree.specs.code.TreeViews.{summaries_view};

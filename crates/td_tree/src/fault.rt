@@ -1,6 +1,6 @@
 //! Why a call gives no value.
 ghost use Rattle.std.specs.Prelude.{◌≡◌, IfOk, Ok};
-ghost use Rattle.td_tree.specs.Outcomes.{IsUnrefused};
+ghost use Rattle.td_tree.specs.model.Outcomes.{IsUnrefused};
 
 use crate::cause::Cause;
 use std::alloc::{AllocError, AllocFailed};

@@ -1,7 +1,7 @@
 //! The causes of several answers, of which the least is named.
 ghost use Rattle.std.specs.Prelude.{◌≡◌, IfOk, None, Some};
-ghost use Rattle.td_tree.specs.Gatherings.{IsCollected, IsRest, answer_of, both_answers};
-ghost use Rattle.td_tree.specs.Gatherings.{cause_of, lesser_cause};
+ghost use Rattle.td_tree.specs.code.Gatherings.{IsCollected, IsRest, answer_of, both_answers};
+ghost use Rattle.td_tree.specs.code.Gatherings.{cause_of, lesser_cause};
 
 use crate::cause::Cause;
 use crate::fault::Fault;
@@ -27,7 +27,7 @@ impl Model for Gathering {
 }
 
 impl Cause {
-    ghost use Rattle.td_tree.specs.Outcomes.{lesser};
+    ghost use Rattle.td_tree.specs.model.Outcomes.{lesser};
 
     /// The one of two causes with the lesser number.
     pub fn lesser(self, other: Cause) -> Cause

@@ -1,8 +1,8 @@
 //! How high a tree is: 1 without parts, else one more than its highest part. `u64::MAX` stands for
 //! what is greater.
 ghost use Rattle.std.specs.Prelude.{◌≡◌, ◌+◌, ◌-◌, ◌^◌, min};
-ghost use Rattle.td_tree.specs.Heights.{attributes_height, height, highest, highest_named};
-ghost use Rattle.td_tree.specs.Heights.{highest_summary, type_height};
+ghost use Rattle.td_tree.specs.model.Heights.{attributes_height, height, highest, highest_named};
+ghost use Rattle.td_tree.specs.model.Heights.{highest_summary, type_height};
 ghost use Rattle.td_tree.specs.code.TreeViews.{heading_tree_view, named_view, summaries_view};
 ghost use Rattle.td_tree.specs.code.TreeViews.{tree_view};
 ghost use Rattle.td_tree.specs.code.TreeViews.{trees_view, type_tree_view};

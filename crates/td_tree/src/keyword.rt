@@ -2,7 +2,7 @@
 ghost use Rattle.std.specs.Prelude.{◌≡◌, find, nat_eq, option_map};
 ghost use Rattle.std.specs.Str.{str_eq_ignore_ascii_case};
 ghost use Rattle.td_tree.specs.code.Initials.{AreInitials};
-ghost use Rattle.td_tree.specs.Keywords.{keyword_of, word_of};
+ghost use Rattle.td_tree.specs.model.Keywords.{keyword_of, word_of};
 
 /// A reserved word. In a script it may stand in any ASCII case.
 #[derive(Clone, Copy, Debug, PartialEq, Eq)]

@@ -3,16 +3,17 @@ ghost use Rattle.std.specs.Prelude.{◌≡◌, ◌+◌, ◌++◌, ◌↔◌, ℕ
 ghost use Rattle.std.specs.List.{flat_map};
 ghost use Rattle.td_tree.specs.declared.piece.Piece.{Piece};
 ghost use Rattle.td_tree.specs.declared.token.Kind.TheVariants as kinds;
-ghost use Rattle.td_tree.specs.Apart.{TextsApartAreSeenEach, TextsApartAreThePieces};
-ghost use Rattle.td_tree.specs.Names.{BytesCompareAsCodePoints};
-ghost use Rattle.td_tree.specs.Outcomes.{LeastIsNamed};
-ghost use Rattle.td_tree.specs.Pieces.{AreLongest, kind_of, pieces, state, text_kind};
-ghost use Rattle.td_tree.specs.Spans.{AreOfTheirKind, AreSlices, AreTexts, Ascends};
-ghost use Rattle.td_tree.specs.Spellings.{IsSpelled, characters};
-ghost use Rattle.td_tree.specs.Statements.{AreStatements, PlacedToken, first_ended, statements};
-ghost use Rattle.td_tree.specs.Statements.{tokens};
-ghost use Rattle.td_tree.specs.Symbols.{AreSymbols, Symbol, symbols};
-ghost use Rattle.td_tree.specs.TextTokens.{IsQuotedText, content, text_in_quotes};
+ghost use Rattle.td_tree.specs.laws.Apart.{TextsApartAreSeenEach, TextsApartAreThePieces};
+ghost use Rattle.td_tree.specs.laws.NameLaws.{BytesCompareAsCodePoints};
+ghost use Rattle.td_tree.specs.laws.CauseLaws.{LeastIsNamed};
+ghost use Rattle.td_tree.specs.model.Pieces.{kind_of, pieces, state, text_kind};
+ghost use Rattle.td_tree.specs.laws.Spans.{AreOfTheirKind, AreSlices, AreTexts, Ascends};
+ghost use Rattle.td_tree.specs.laws.Spellings.{IsSpelled, characters};
+ghost use Rattle.td_tree.specs.model.Statements.{PlacedToken, first_ended, statements};
+ghost use Rattle.td_tree.specs.model.Statements.{tokens};
+ghost use Rattle.td_tree.specs.laws.TokenLaws.{AreLongest, AreStatements, AreSymbols};
+ghost use Rattle.td_tree.specs.model.Symbols.{Symbol, symbols};
+ghost use Rattle.td_tree.specs.model.TextTokens.{IsQuotedText, content, text_in_quotes};
 
 /// The cause that is named is one of those that there are, and none of them has a lesser number.
 pub fn the_least_cause_is_named()

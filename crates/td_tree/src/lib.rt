@@ -1,4 +1,12 @@
-//! Names, causes and tokens of Tutorial D.
+//! Names, causes, tokens and trees of Tutorial D.
+//!
+//! All other crates speak of these. Most used are `Name::new`, which makes a name of a text,
+//! `Expr::reveal`, which tells that names and texts in a tree are as the language has them, and
+//! `Gathering::add`, which keeps the least cause of several answers.
+//!
+//! Read cause.rt and fault.rt, token.rt and name.rt, then the trees in type_tree.rt, expression.rt
+//! and statement.rt, and print.rt, which gives their texts. What they mean begins in
+//! specs/model/Trees.
 #![tactic(auto)]
 
 mod both;

@@ -3,8 +3,8 @@ ghost use Rattle.std.specs.Prelude.{◌≡◌, IfOk, IsTrue};
 ghost use Rattle.std.proofs.Common.{rules};
 ghost use Rattle.std.specs.List.{list_all};
 ghost use Rattle.std.specs.Str.{chars};
-ghost use Rattle.td_tree.specs.Names.{IsName, begins_the, is_name, is_word, is_word_more};
-ghost use Rattle.td_tree.specs.Names.{is_word_start};
+ghost use Rattle.td_tree.specs.model.Names.{IsName, begins_the, is_name, is_word, is_word_more};
+ghost use Rattle.td_tree.specs.model.Names.{is_word_start};
 
 use crate::keyword::Keyword;
 use std::alloc::{AllocError, Global};
@@ -54,7 +54,7 @@ pub fn begins_the(text: &[u8]) -> bool
 }
 
 /// Whether the text is a name: a word that is no reserved word and does not begin with `THE_`.
-#[tactic(auto, unfolding(crate::specs::Names::is_name))]
+#[tactic(auto, unfolding(crate::specs::model::Names::is_name))]
 pub fn is_name(text: &str) -> bool
     ensures { result ≡ is_name text.now }
 {
@@ -70,7 +70,7 @@ pub struct Name {
 impl Model for Name {
     ghost use Rattle.std.specs.Prelude.{ℕ, List};
     ghost use Rattle.std.specs.Rc.{rc_str_bytes};
-    ghost use Rattle.td_tree.specs.Names.{IsName};
+    ghost use Rattle.td_tree.specs.model.Names.{IsName};
 
     ghost Value = { List ℕ };
 
@@ -172,7 +172,7 @@ impl Ord for Name {
 
 impl Hash for Name {
     ghost use Rattle.std.specs.Hash as fed;
-    ghost use Rattle.td_tree.specs.Hashes.{fed_alike};
+    ghost use Rattle.td_tree.specs.code.Hashes.{fed_alike};
 
     ghost hash_input = { fed.str };
 

@@ -1,6 +1,6 @@
 //! The operators of expressions, and the levels at which they bind.
 ghost use Rattle.std.specs.Prelude.{◌≡◌};
-ghost use Rattle.td_tree.specs.Grammar.{aggregate_word, measure_word};
+ghost use Rattle.td_tree.specs.model.Grammar.{aggregate_word, measure_word};
 
 use crate::keyword::Keyword;
 

@@ -1,6 +1,7 @@
 //! The pieces that a script is divided into: how one begins, how it goes on, and what it is.
 ghost use Rattle.std.specs.Prelude.{◌≡◌};
-ghost use Rattle.td_tree.specs.Pieces.{goes_on, is_blank, kind_after, opens, sign_at, sign_goes_on};
+ghost use Rattle.td_tree.specs.model.Pieces.{goes_on, is_blank, kind_after, opens, sign_at};
+ghost use Rattle.td_tree.specs.model.Pieces.{sign_goes_on};
 
 use crate::name::{is_word_more, is_word_start};
 use crate::token::{Kind, Sign};
@@ -33,7 +34,7 @@ pub enum Piece {
 
 impl Piece {
     /// The piece that a character begins; `None` stands for a byte that begins no character.
-    #[tactic(auto, unfolding(crate::specs::Pieces::opens))]
+    #[tactic(auto, unfolding(crate::specs::model::Pieces::opens))]
     pub fn opens(character: Option<char>) -> Piece
         ensures { result ≡ opens character }
     {
@@ -58,7 +59,7 @@ impl Piece {
     }
 
     /// The piece with one more character, or `None` where it does not go on.
-    #[tactic(auto, unfolding(crate::specs::Pieces::goes_on))]
+    #[tactic(auto, unfolding(crate::specs::model::Pieces::goes_on))]
     pub fn goes_on(self, character: Option<char>) -> Option<Piece>
         ensures { result ≡ goes_on self character }
     {
@@ -110,7 +111,7 @@ fn is_blank(character: char) -> bool
 }
 
 /// The sign that the character is by itself.
-#[tactic(auto, unfolding(crate::specs::Pieces::sign_at))]
+#[tactic(auto, unfolding(crate::specs::model::Pieces::sign_at))]
 fn sign_at(character: char) -> Option<Sign>
     ensures { result ≡ sign_at character }
 {
@@ -134,7 +135,7 @@ fn sign_at(character: char) -> Option<Sign>
 }
 
 /// The piece that begins with a sign and goes on with the character.
-#[tactic(auto, unfolding(crate::specs::Pieces::sign_goes_on))]
+#[tactic(auto, unfolding(crate::specs::model::Pieces::sign_goes_on))]
 fn sign_goes_on(sign: Sign, character: Option<char>) -> Option<Piece>
     ensures { result ≡ sign_goes_on sign character }
 {

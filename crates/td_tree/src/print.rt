@@ -3,13 +3,13 @@ ghost use Rattle.std.specs.Prelude.{◌≡◌, ◌∷◌, ◌++◌, [], IfOk};
 ghost use Rattle.std.specs.String.{string_bytes};
 ghost use Rattle.td_tree.specs.declared.keyword.Keyword.TheVariants as k;
 ghost use Rattle.td_tree.specs.declared.token.Sign.TheVariants as signs;
-ghost use Rattle.td_tree.specs.Grammar.{aggregate_word};
-ghost use Rattle.td_tree.specs.Lexemes.{keyword, sign};
-ghost use Rattle.td_tree.specs.Lists.{with_braces, with_parentheses};
-ghost use Rattle.td_tree.specs.Prints.{addition_lexemes, all_lexemes, commas, heading_lexemes};
-ghost use Rattle.td_tree.specs.Prints.{lexemes_of, part_lexemes, print, setting_lexemes};
-ghost use Rattle.td_tree.specs.Prints.{summary_lexemes};
-ghost use Rattle.td_tree.specs.Prints.{type_lexemes, type_print};
+ghost use Rattle.td_tree.specs.model.Grammar.{aggregate_word};
+ghost use Rattle.td_tree.specs.model.Lexemes.{keyword, sign};
+ghost use Rattle.td_tree.specs.model.Lists.{with_braces, with_parentheses};
+ghost use Rattle.td_tree.specs.model.Prints.{addition_lexemes, all_lexemes, commas};
+ghost use Rattle.td_tree.specs.model.Prints.{heading_lexemes, lexemes_of, part_lexemes, print};
+ghost use Rattle.td_tree.specs.model.Prints.{setting_lexemes, summary_lexemes, type_lexemes};
+ghost use Rattle.td_tree.specs.model.Prints.{type_print};
 ghost use Rattle.td_tree.specs.code.TreeViews.{heading_tree_view, named_view, summaries_view};
 ghost use Rattle.td_tree.specs.code.TreeViews.{tree_view};
 ghost use Rattle.td_tree.specs.code.TreeViews.{trees_view, type_tree_view};
@@ -93,7 +93,9 @@ impl Printer {
             Expr::Select(ty, arguments) => self.name(ty)?.arguments(arguments),
             Expr::Component(rest, operand) => self.component(rest)?.with_parentheses(operand),
             Expr::Measure(op, operand) => self.keyword(op.keyword())?.with_parentheses(operand),
-            Expr::Aggregate(op, left, right) => self.aggregate_start(*op, left)?.over(right),
+            Expr::Aggregate(op, left, right) => self
+                .aggregate_start(*op, left)?
+                .second_argument(right),
             Expr::Relation(elements) => self.keyword(Keyword::Relation)?.elements(elements),
             Expr::HeadedRelation(heading, elements) => {
                 self.relation_type(heading)?.elements(elements)
@@ -152,7 +154,7 @@ impl Printer {
 
     /// The second argument of an aggregate, and the parenthesis that closes.
     #[cycle(printer)]
-    fn over(self, value: &Expr) -> Result<Printer, AllocError>
+    fn second_argument(self, value: &Expr) -> Result<Printer, AllocError>
         ensures { Writes self result
             (sign signs.Comma
             ∷ (lexemes_of (tree_view value.now) ++ (sign signs.CloseParenthesis ∷ []))) }

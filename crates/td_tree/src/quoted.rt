@@ -2,7 +2,7 @@
 ghost use Rattle.std.specs.Prelude.{◌≡◌, ◌++◌, OnErr, OnOk};
 ghost use Rattle.std.specs.String.{string_bytes};
 ghost use Rattle.td_tree.specs.code.Fronts.{PutsFront};
-ghost use Rattle.td_tree.specs.TextTokens.{with_quotes_doubled, text_in_quotes};
+ghost use Rattle.td_tree.specs.model.TextTokens.{with_quotes_doubled, text_in_quotes};
 ghost use Rattle.td_tree.specs.code.Written.{quotes_if};
 
 use std::alloc::AllocError;

@@ -2,7 +2,7 @@
 ghost use Rattle.std.specs.Prelude.{◌≡◌, IfOk};
 ghost use Rattle.std.specs.Rc.{rc_str_bytes};
 ghost use Rattle.td_tree.specs.code.Copies.{Boxed, Copied};
-ghost use Rattle.td_tree.specs.Trees as trees;
+ghost use Rattle.td_tree.specs.model.Trees as trees;
 ghost use Rattle.td_tree.specs.code.TreeViews.{attributes_view, heading_tree_view, literal_view};
 ghost use Rattle.td_tree.specs.code.TreeViews.{named_view, postfix_view, summaries_view, tree_view};
 ghost use Rattle.td_tree.specs.code.TreeViews.{trees_view};

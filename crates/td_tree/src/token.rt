@@ -1,7 +1,7 @@
 //! What a token is.
 ghost use Rattle.std.specs.Prelude.{◌≡◌};
-ghost use Rattle.td_tree.specs.Pieces.{text_kind, word_kind};
-ghost use Rattle.td_tree.specs.Signs.{sign_text};
+ghost use Rattle.td_tree.specs.model.Pieces.{text_kind, word_kind};
+ghost use Rattle.td_tree.specs.model.Signs.{sign_text};
 
 use crate::keyword::Keyword;
 use crate::name::begins_the;
@@ -79,7 +79,7 @@ pub enum Kind {
 
 impl Kind {
     /// What a word with these bytes is.
-    #[tactic(auto, unfolding(crate::specs::Pieces::word_kind))]
+    #[tactic(auto, unfolding(crate::specs::model::Pieces::word_kind))]
     pub fn of_word(text: &[u8]) -> Kind
         ensures { result ≡ word_kind text.now }
     {

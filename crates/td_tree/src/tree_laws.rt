@@ -1,13 +1,14 @@
 //! Laws of trees and of their texts: the text of a tree is its own tokens, and says the tree again.
 ghost use Rattle.std.specs.Prelude.{ℕ, List};
 ghost use Rattle.td_tree.specs.declared.operator.Level.{Level};
-ghost use Rattle.td_tree.specs.Grammar.{IsExpression, TypeSpelling};
-ghost use Rattle.td_tree.specs.Prints.{print, type_print};
-ghost use Rattle.td_tree.specs.Spaced.{AreItsOwnLexemes, AreItsOwnTypeLexemes, PrintIsSpaced};
-ghost use Rattle.td_tree.specs.Spaced.{TypePrintIsSpaced};
-ghost use Rattle.td_tree.specs.Statements.{PlacedToken, tokens};
-ghost use Rattle.td_tree.specs.TokenLexemes.{AreBadWhereSeen, lexemes};
-ghost use Rattle.td_tree.specs.Trees.{Tree, TypeTree};
+ghost use Rattle.td_tree.specs.model.Grammar.{IsExpression, TypeSpelling};
+ghost use Rattle.td_tree.specs.model.Prints.{print, type_print};
+ghost use Rattle.td_tree.specs.laws.Spaced.{AreItsOwnLexemes, AreItsOwnTypeLexemes, PrintIsSpaced};
+ghost use Rattle.td_tree.specs.laws.Spaced.{TypePrintIsSpaced};
+ghost use Rattle.td_tree.specs.model.Statements.{PlacedToken, tokens};
+ghost use Rattle.td_tree.specs.laws.TokenLaws.{AreBadWhereSeen};
+ghost use Rattle.td_tree.specs.model.TokenLexemes.{lexemes};
+ghost use Rattle.td_tree.specs.model.Trees.{Tree, TypeTree};
 
 /// An expression that some tokens spell is printed as a text whose tokens spell it.
 #[tactic(auto, using(crate::proofs::law_lemmas::PrintLaws::print_spells))]

@@ -2,11 +2,11 @@
 //! tokens spell it.
 ghost use Rattle.std.specs.Prelude.{map};
 ghost use Rattle.std.specs.List.{AllByRecursion};
-ghost use Rattle.td_tree.specs.Names.{IsName};
-ghost use Rattle.td_tree.specs.WrittenTrees.{GiveNames, HasNames, HaveNames, HaveTexts};
-ghost use Rattle.td_tree.specs.WrittenTrees.{IsUtf8Literal, IsWritten, ItemsGiveNames};
-ghost use Rattle.td_tree.specs.WrittenTrees.{ItemsHaveTexts, OperatorGivesNames, PartsGiveNames};
-ghost use Rattle.td_tree.specs.WrittenTrees.{PartsHaveTexts};
+ghost use Rattle.td_tree.specs.model.Names.{IsName};
+ghost use Rattle.td_tree.specs.model.WrittenTrees.{GiveNames, HasNames, HaveNames, HaveTexts};
+ghost use Rattle.td_tree.specs.model.WrittenTrees.{IsUtf8Literal, IsWritten, ItemsGiveNames};
+ghost use Rattle.td_tree.specs.model.WrittenTrees.{ItemsHaveTexts, OperatorGivesNames};
+ghost use Rattle.td_tree.specs.model.WrittenTrees.{PartsGiveNames, PartsHaveTexts};
 ghost use Rattle.td_tree.specs.code.TreeViews.{heading_tree_view, literal_view, named_view};
 ghost use Rattle.td_tree.specs.code.TreeViews.{postfix_view, renaming_view, summaries_view};
 ghost use Rattle.td_tree.specs.code.TreeViews.{tree_view, trees_view, type_tree_view};

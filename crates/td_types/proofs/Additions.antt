@@ -8,13 +8,13 @@ use Rattle.std.proofs.lemmas.List.{map-append}
 use Rattle.std.proofs.lemmas.Option.{slice_get-get_or}
 use Rattle.indexmap.specs.IndexMap.{IndexMap, insert_entry}
 use Rattle.indexmap.proofs.CallerLemmas.{insert_entry-new}
-use Rattle.td_tree.specs.Names.{IsName}
-use Rattle.td_tree.specs.Trees.{Tree}
-use Rattle.td_types.specs.Headings.{are_distinct}
+use Rattle.td_tree.specs.model.Names.{IsName}
+use Rattle.td_tree.specs.model.Trees.{Tree}
+use Rattle.td_types.specs.model.Headings.{are_distinct}
 use Rattle.td_types.specs.code.Pairs.{ArePairs}
 use Rattle.td_types.specs.code.Tables.{IsTable, kept_rank, rows_view}
-use Rattle.td_types.specs.TypeLists.{AreKnown, DeclaredType, IsDeclarable, IsKnown, declared_type, is_declared, rank_of, user_ranks}
-use Rattle.td_types.specs.Types.{Attribute, Heading, IsType, pack, same_name, tuple}
+use Rattle.td_types.specs.model.TypeLists.{AreKnown, DeclaredType, IsDeclarable, IsKnown, declared_type, is_declared, rank_of, user_ranks}
+use Rattle.td_types.specs.model.Types.{Attribute, Heading, IsType, pack, same_name, tuple}
 use Rattle.td_types.specs.code.Views.{pairs_view}
 use Rattle.td_types.specs.declared.table.Row.{Row}
 use Rattle.td_types.specs.declared.ty.Ty.{Ty}

@@ -6,10 +6,10 @@ use Rattle.std.specs.List.{filter, insert, prefix_len, take-map, drop-map}
 use Rattle.std.proofs.lemmas.List.{append-nil, map-append, length-map, drop_all}
 use Rattle.std.proofs.lemmas.List.Sums.{prefix_len-le-length}
 use Rattle.td_types.specs.declared.heading.Attribute as Ty
-use Rattle.td_types.specs.Headings.{add_missing, with_attribute}
+use Rattle.td_types.specs.model.Headings.{add_missing, with_attribute}
 use Rattle.td_types.proofs.HeadingLaws.{name_cmp, insert-with}
 use Rattle.td_types.specs.code.Views.{attribute_view, heading_view, type_view}
-use Rattle.td_types.specs.Types.{Type', Attribute, Heading, type_at}
+use Rattle.td_types.specs.model.Types.{Type', Attribute, Heading, type_at}
 
 -- an attribute of the code inserted at the place of its name is put in its place
 pub attributes_of-insert : (items : List Ty.Attribute) (h : Heading) → heading_view items ≡ h → (a : Ty.Attribute) (place : ℕ)

@@ -7,8 +7,8 @@ use Rattle.std.proofs.lemmas.List.{append-nil, append_assoc, map-append}
 use Rattle.indexmap.specs.IndexMap.{IndexMap, insert_entry}
 use Rattle.indexmap.proofs.CallerLemmas.{insert_entry-new}
 use Rattle.td_types.specs.code.Tables.{IsTable, kept_rank, rows_view}
-use Rattle.td_types.specs.TypeLists.{AreDeclared, DeclaredType, is_declared, user_ranks}
-use Rattle.td_types.specs.Types.{same_name}
+use Rattle.td_types.specs.model.TypeLists.{AreDeclared, DeclaredType, is_declared, user_ranks}
+use Rattle.td_types.specs.model.Types.{same_name}
 use Rattle.td_types.specs.declared.table.Row.{Row}
 use Rattle.td_types.proofs.Tables.{row_none}
 

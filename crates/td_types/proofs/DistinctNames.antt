@@ -10,8 +10,8 @@ use Rattle.std.specs.List.Sorted.{IsPermutation, IsSorted, IsSortedBy, IsStrictl
 use Rattle.std.proofs.lemmas.Cmp.{nat_list_cmp_total, nat_list_eq_equiv, alike_right}
 use Rattle.std.proofs.lemmas.List.Sorted.{sum_by-IsPermutation}
 use Rattle.std.proofs.lemmas.List.Sums.{sum_by-cons}
-use Rattle.td_types.specs.Types.{same_name}
-use Rattle.td_types.specs.Headings.{are_distinct, has_name}
+use Rattle.td_types.specs.model.Types.{same_name}
+use Rattle.td_types.specs.model.Headings.{are_distinct, has_name}
 
 abbrev pub name_cmp : List ℕ → List ℕ → Ordering
 name_cmp = slice_cmp nat_cmp

@@ -11,10 +11,11 @@ use Rattle.std.specs.List.Sorted.{IsStrictlySortedBy}
 use Rattle.std.specs.FinMap.Entries.{by_order, find, is_sorted, below_all, is_sorted-put, is_sorted-where_key, find-put, find-where_key, same_entries}
 use Rattle.std.proofs.lemmas.Cmp.{nat_list_cmp_total, eq_by_cmp_equiv}
 use Rattle.std.proofs.lemmas.Map.Lookups.{exact_bytes}
-use Rattle.td_types.specs.Headings.{AgreementIsOneType, RenamingKeepsTypes, TypesDetermineHeading, are_distinct, new_name, add_missing, agree, common_part, has_attribute, has_attributes, has_name, have_no_common, heading_union, is_type_or_none, outside, projection, renamed_attributes, with_attribute, without_attribute}
-use Rattle.td_tree.specs.Names.{IsName}
-use Rattle.td_types.specs.TypeOrder.{type_eq-Decides}
-use Rattle.td_types.specs.Types.{Type', Attribute, Heading, IsAscending, IsBefore, IsHeading, IsType, pack, attribute_names, same_name, type_at}
+use Rattle.td_types.specs.laws.HeadingLaws.{AgreementIsOneType, RenamingKeepsTypes, TypesDetermineHeading}
+use Rattle.td_types.specs.model.Headings.{are_distinct, new_name, add_missing, agree, common_part, has_attribute, has_attributes, has_name, have_no_common, heading_union, is_type_or_none, outside, projection, renamed_attributes, with_attribute, without_attribute}
+use Rattle.td_tree.specs.model.Names.{IsName}
+use Rattle.td_types.specs.code.TypeOrder.{type_eq-Decides}
+use Rattle.td_types.specs.model.Types.{Type', Attribute, Heading, IsAscending, IsBefore, IsHeading, IsType, pack, attribute_names, same_name, type_at}
 
 abbrev pub name_cmp : List ℕ → List ℕ → Ordering
 name_cmp = slice_cmp nat_cmp

@@ -2,10 +2,10 @@
 use Rattle.std.proofs.Common.{◌≡◌, ◌∙◌, ◌∷◌, ◌≤◌, ◌<◌, ◌↔◌, ◌+◌, ℕ, Bool, true, false, List, [], Option, Some, None, ◌⊎◌, inl, inr, ap, arith, fold, refl}
 use Rattle.std.specs.Prelude.{is_some, max, min, nat_le, IsTrue, ⊤, if◌then◌else◌}
 use Rattle.td_tree.specs.declared.cause.Cause.TheVariants as causes
-use Rattle.td_tree.specs.Outcomes.{Outcome, Valued, Refused, least, named_cause, with_value, with_both, value_if}
+use Rattle.td_tree.specs.model.Outcomes.{Outcome, Valued, Refused, least, named_cause, with_value, with_both, value_if}
 use Rattle.td_types.specs.code.Tables.{kept_rank}
-use Rattle.td_types.specs.TypeLists.{AreDeclared, AreKnown, DeclaredType, IsKnown, greatest_rank, is_declared, limited_rank, rank_limit, rank_of, rank_over, user_ranks, with_rank}
-use Rattle.td_types.specs.Types.{Attrs, Type', attr, boolean, char, integer, no_attrs, pack, relation, same_name, tuple, user}
+use Rattle.td_types.specs.model.TypeLists.{AreDeclared, AreKnown, DeclaredType, IsKnown, greatest_rank, is_declared, limited_rank, rank_limit, rank_of, rank_over, user_ranks, with_rank}
+use Rattle.td_types.specs.model.Types.{Attrs, Type', attr, boolean, char, integer, no_attrs, pack, relation, same_name, tuple, user}
 use Rattle.td_types.proofs.OutcomeLaws.{value_of_with, values_of_both}
 use Rattle.td_types.proofs.Ranks.{greater, known_have_ranks, no_ranks, one_more}
 use Rattle.std.proofs.lemmas.Bool.Decides.{leb_tells}

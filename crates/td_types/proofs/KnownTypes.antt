@@ -1,8 +1,8 @@
 -- What is declared or known is so where more types are declared.
 use Rattle.std.proofs.Common.{◌≡◌, ◌∙◌, ℕ, List, ◌++◌, Some, ap}
 use Rattle.std.specs.Prelude.{is_some}
-use Rattle.td_types.specs.TypeLists.{AreKnown, DeclaredType, IsKnown, declared_at}
-use Rattle.td_types.specs.Types.{Type', boolean, integer, char, user, tuple, relation, Attrs, no_attrs, attr}
+use Rattle.td_types.specs.model.TypeLists.{AreKnown, DeclaredType, IsKnown, declared_at}
+use Rattle.td_types.specs.model.Types.{Type', boolean, integer, char, user, tuple, relation, Attrs, no_attrs, attr}
 use Rattle.td_types.proofs.DeclaredTypes.{declared_at-earlier, is_declared-earlier}
 
 pub declared_more : (name : List ℕ) (ds more : List DeclaredType) (d : DeclaredType) → declared_at name ds ≡ Some d

@@ -7,13 +7,13 @@ use Rattle.std.specs.List.Sorted.{IsPermutation, IsStrictlySortedBy}
 use Rattle.std.specs.Ordering.{eq_by_cmp}
 use Rattle.std.specs.declared.cmp.Ordering.TheVariants.{Less}
 use Rattle.std.proofs.lemmas.List.Sorted.{list_any-IsPermutation, IsPermutation-map}
-use Rattle.td_tree.specs.Names.{IsName}
+use Rattle.td_tree.specs.model.Names.{IsName}
 use Rattle.td_types.specs.declared.ty.Ty.{Ty}
-use Rattle.td_types.specs.Headings.{are_distinct, has_name, heading_from, with_attribute}
+use Rattle.td_types.specs.model.Headings.{are_distinct, has_name, heading_from, with_attribute}
 use Rattle.td_types.proofs.HeadingLaws.{IsAscending-with, name_cmp, type_at-with, types_determine_heading}
 use Rattle.td_types.specs.code.Pairs.{ArePairs}
-use Rattle.td_types.specs.TypeOrder.{type_eq-Decides}
-use Rattle.td_types.specs.Types.{Attribute, Heading, IsAscending, IsBefore, IsHeading, IsType, Type', attribute_names, pack, same_name, type_at, type_cmp}
+use Rattle.td_types.specs.code.TypeOrder.{type_eq-Decides}
+use Rattle.td_types.specs.model.Types.{Attribute, Heading, IsAscending, IsBefore, IsHeading, IsType, Type', attribute_names, pack, same_name, type_at, type_cmp}
 use Rattle.td_types.specs.code.Views.{pairs_view}
 use Rattle.td_types.proofs.DistinctNames.{distinct_permuted, first_of, second_of}
 

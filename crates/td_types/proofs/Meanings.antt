@@ -4,15 +4,15 @@ use Rattle.std.specs.List.{AllByRecursion}
 use Rattle.std.specs.List.Sorted.{IsStrictlySortedBy}
 use Rattle.std.proofs.lemmas.List.Sorted.{IsPermutation-refl}
 use Rattle.td_tree.specs.declared.cause.Cause.TheVariants as causes
-use Rattle.td_tree.specs.Names.{IsName}
-use Rattle.td_tree.specs.Outcomes.{Outcome, Valued, with_value, with_both}
-use Rattle.td_tree.specs.Trees.{TypeTree, AttributeTrees, no_attributes, attribute}
-use Rattle.td_tree.specs.WrittenTrees.{HasNames, HaveNames}
-use Rattle.td_tree.specs.Trees as trees
-use Rattle.td_types.specs.Headings.{are_distinct, heading_from, made_heading, with_attribute}
-use Rattle.td_types.specs.TypeLists.{AreKnown, DeclaredType, IsKnown, attributes_meant, is_declared, type_meant}
-use Rattle.td_types.specs.TypeTrees.{attribute_trees, type_tree}
-use Rattle.td_types.specs.Types.{Attrs, Attribute, Heading, IsAscending, IsHeading, IsType, Type', attr, attribute_names, boolean, char, integer, no_attrs, pack, relation, tuple, unpack, user}
+use Rattle.td_tree.specs.model.Names.{IsName}
+use Rattle.td_tree.specs.model.Outcomes.{Outcome, Valued, with_value, with_both}
+use Rattle.td_tree.specs.model.Trees.{TypeTree, AttributeTrees, no_attributes, attribute}
+use Rattle.td_tree.specs.model.WrittenTrees.{HasNames, HaveNames}
+use Rattle.td_tree.specs.model.Trees as trees
+use Rattle.td_types.specs.model.Headings.{are_distinct, heading_from, made_heading, with_attribute}
+use Rattle.td_types.specs.model.TypeLists.{AreKnown, DeclaredType, IsKnown, attributes_meant, is_declared, type_meant}
+use Rattle.td_types.specs.laws.TypeTrees.{attribute_trees, type_tree}
+use Rattle.td_types.specs.model.Types.{Attrs, Attribute, Heading, IsAscending, IsHeading, IsType, Type', attr, attribute_names, boolean, char, integer, no_attrs, pack, relation, tuple, unpack, user}
 use Rattle.td_types.proofs.DeclaredTypes.{AreKnown-with, is_declared-earlier}
 use Rattle.td_types.proofs.DistinctNames.{absent_below}
 use Rattle.td_types.proofs.HeadingLaws.{IsHeading-with, ascending_from_heading}

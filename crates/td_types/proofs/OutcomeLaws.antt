@@ -1,7 +1,7 @@
 -- What follows from the value of an outcome that is made of others.
 use Rattle.std.proofs.Common.{◌≡◌, Bool, true, false, refl}
 use Rattle.td_tree.specs.declared.cause.Cause.{Cause}
-use Rattle.td_tree.specs.Outcomes.{Outcome, Valued, Refused, with_value, with_both, value_if}
+use Rattle.td_tree.specs.model.Outcomes.{Outcome, Valued, Refused, with_value, with_both, value_if}
 
 pub valued_is : {A : Type 0} (x y : A) → Valued x ≡ Valued y → x ≡ y
 valued_is x y e = cc

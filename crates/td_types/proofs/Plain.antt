@@ -8,8 +8,8 @@ use Rattle.std.proofs.Math.Utf8.{encode, encodes}
 use lib.Utf8.{next}
 use Rattle.std.proofs.lemmas.Bool.Decides.{nat_tests}
 use Rattle.std.proofs.lemmas.Str.{encodes-chars}
-use Rattle.td_tree.specs.Keywords.{keyword_of}
-use Rattle.td_tree.specs.Names.{IsName, begins_the, is_name, is_word, is_word_more, is_word_start}
+use Rattle.td_tree.specs.model.Keywords.{keyword_of}
+use Rattle.td_tree.specs.model.Names.{IsName, begins_the, is_name, is_word, is_word_more, is_word_start}
 use Rattle.td_tree.proofs.law_lemmas.WordStarts.{ascii_more, ascii_start}
 
 -- a space, a quote, a parenthesis, a comma, a minus or a brace

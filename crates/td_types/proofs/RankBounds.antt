@@ -2,11 +2,11 @@
 use Rattle.std.proofs.Common.{◌≡◌, ℕ, ◌+◌, ◌≤◌, max, List, [], ◌∷◌, Bool, true, false, refl, sym, arith}
 use Rattle.std.specs.Prelude.{fold}
 use Rattle.td_tree.specs.declared.cause.Cause.TheVariants as causes
-use Rattle.td_tree.specs.Heights.{attributes_height, type_height}
-use Rattle.td_tree.specs.Outcomes.{Outcome, Valued, Refused, Only, with_both, with_value}
-use Rattle.td_types.specs.TypeLists.{DeclaredType, greatest_rank, rank_of, rank_over, user_ranks, with_rank}
-use Rattle.td_types.specs.TypeTrees.{attribute_trees, type_tree}
-use Rattle.td_types.specs.Types.{Type', boolean, integer, char, user, tuple, relation, Attrs, no_attrs, attr, pack, same_name}
+use Rattle.td_tree.specs.model.Heights.{attributes_height, type_height}
+use Rattle.td_tree.specs.model.Outcomes.{Outcome, Valued, Refused, Only, with_both, with_value}
+use Rattle.td_types.specs.model.TypeLists.{DeclaredType, greatest_rank, rank_of, rank_over, user_ranks, with_rank}
+use Rattle.td_types.specs.laws.TypeTrees.{attribute_trees, type_tree}
+use Rattle.td_types.specs.model.Types.{Type', boolean, integer, char, user, tuple, relation, Attrs, no_attrs, attr, pack, same_name}
 
 -- the rank of a type that has parts
 pub one_more : (o : Outcome ℕ) (k : ℕ) → with_value o (λ greatest. Valued (greatest + 1)) ≡ Valued k → (g : ℕ) × (o ≡ Valued g) × (k ≡ g + 1)

@@ -8,9 +8,9 @@ use Rattle.std.proofs.lemmas.List.{append-nil, append_assoc}
 use Rattle.std.proofs.lemmas.List.Elements.{Contains-append_right, Contains-get_or}
 use Rattle.std.proofs.lemmas.List.Sums.{fold-append}
 use Rattle.td_tree.specs.declared.cause.Cause.TheVariants as causes
-use Rattle.td_tree.specs.Outcomes.{Outcome, Valued, Refused, Only, with_value, with_both}
-use Rattle.td_types.specs.TypeLists.{AreDeclared, AreKnown, DeclaredType, IsDeclarable, IsKnown, declared_at, greatest_rank, is_declared, rank_of, rank_over, user_ranks, with_rank}
-use Rattle.td_types.specs.Types.{Attrs, Attribute, Heading, Type', attr, boolean, char, integer, no_attrs, pack, relation, same_name, tuple, user}
+use Rattle.td_tree.specs.model.Outcomes.{Outcome, Valued, Refused, Only, with_value, with_both}
+use Rattle.td_types.specs.model.TypeLists.{AreDeclared, AreKnown, DeclaredType, IsDeclarable, IsKnown, declared_at, greatest_rank, is_declared, rank_of, rank_over, user_ranks, with_rank}
+use Rattle.td_types.specs.model.Types.{Attrs, Attribute, Heading, Type', attr, boolean, char, integer, no_attrs, pack, relation, same_name, tuple, user}
 use Rattle.td_types.proofs.DeclaredTypes.{declared_at-later, is_declared-earlier, stands_in}
 use Rattle.td_types.proofs.HeadingLaws.{same_name-itself}
 use Rattle.td_types.proofs.OutcomeLaws.{value_of_with, valued_is, values_of_both}

@@ -2,10 +2,10 @@
 use Rattle.std.proofs.Common.{◌≡◌, ◌∙◌, ◌∷◌, ℕ, Bool, true, false, cond, List, [], ap, refl, subst, sym}
 use Rattle.std.specs.List.{AllByRecursion}
 use Rattle.std.specs.Map.{remove_entry}
-use Rattle.td_types.specs.NamedTypes.{is_component, without_declared}
+use Rattle.td_types.specs.model.NamedTypes.{is_component, without_declared}
 use Rattle.td_types.specs.code.Tables.{IsTable, kept_rank, rows_view}
-use Rattle.td_types.specs.TypeLists.{AreDeclared, is_declared, user_ranks}
-use Rattle.td_types.specs.Types.{same_name}
+use Rattle.td_types.specs.model.TypeLists.{AreDeclared, is_declared, user_ranks}
+use Rattle.td_types.specs.model.Types.{same_name}
 use Rattle.td_types.specs.declared.table.Row.{Row}
 use Rattle.td_types.proofs.HeadingLaws.{same_name-flips}
 use Rattle.td_types.proofs.RemovedTypes.{AreDeclared-without, other_name, removed_is_gone, user_ranks-without}

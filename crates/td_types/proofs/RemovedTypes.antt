@@ -7,10 +7,10 @@ use Rattle.std.proofs.lemmas.List.{append_assoc}
 use Rattle.std.proofs.lemmas.List.Folds.{list_any-append}
 use Rattle.std.proofs.lemmas.Option.{slice_get-get_or}
 use Rattle.td_tree.specs.declared.cause.Cause.TheVariants as causes
-use Rattle.td_tree.specs.Outcomes.{Outcome, value_if, with_value, with_both}
-use Rattle.td_types.specs.NamedTypes.{any_names_user, is_component, is_made_of, names_user, without_declared}
-use Rattle.td_types.specs.TypeLists.{AreDeclared, AreKnown, DeclaredType, IsDeclarable, IsKnown, declared_at, greatest_rank, is_declared, limited_rank, rank_limit, rank_of, rank_over, user_ranks, with_rank}
-use Rattle.td_types.specs.Types.{Attrs, Attribute, Heading, Type', attr, boolean, char, integer, no_attrs, pack, relation, same_name, tuple, user}
+use Rattle.td_tree.specs.model.Outcomes.{Outcome, value_if, with_value, with_both}
+use Rattle.td_types.specs.model.NamedTypes.{any_names_user, is_component, is_made_of, names_user, without_declared}
+use Rattle.td_types.specs.model.TypeLists.{AreDeclared, AreKnown, DeclaredType, IsDeclarable, IsKnown, declared_at, greatest_rank, is_declared, limited_rank, rank_limit, rank_of, rank_over, user_ranks, with_rank}
+use Rattle.td_types.specs.model.Types.{Attrs, Attribute, Heading, Type', attr, boolean, char, integer, no_attrs, pack, relation, same_name, tuple, user}
 use Rattle.td_types.proofs.DeclaredTypes.{declared_at-itself, first_is, found, rest_is, stands_in}
 use Rattle.td_types.proofs.HeadingLaws.{same_name-flips}
 use Rattle.td_types.proofs.Ranks.{greater, no_ranks, one_more}

@@ -5,17 +5,17 @@ use Rattle.td_tree.specs.declared.cause.Cause.{Cause}
 use Rattle.td_tree.specs.declared.fault.Fault.{Fault}
 use Rattle.td_tree.specs.declared.fault.Fault.TheVariants as faults
 use Rattle.td_tree.specs.declared.type_tree.AttributeTree.{AttributeTree}
-use Rattle.td_tree.specs.Gatherings.{IsGathered, answer_of}
-use Rattle.td_tree.specs.Outcomes.{Answers, Outcome, Valued, Refused, gathered, with_both, with_value}
+use Rattle.td_tree.specs.code.Gatherings.{IsGathered, answer_of}
+use Rattle.td_tree.specs.model.Outcomes.{Answers, Outcome, Valued, Refused, gathered, with_both, with_value}
 use Rattle.td_tree.specs.code.TreeViews.{heading_tree_view, type_tree_view}
 use Rattle.td_tree.proofs.code_lemmas.Gatherings.{answers_gathered}
 use Rattle.td_tree.proofs.code_lemmas.Rows.{relation_type_is, tuple_type_is}
 use Rattle.td_tree.specs.declared.type_tree.TypeTree.{TypeTree}
 use Rattle.td_tree.specs.declared.type_tree.TypeTree.TheVariants as t
 use Rattle.std.specs.Global.{Vec}
-use Rattle.td_types.specs.Headings.{made_heading}
-use Rattle.td_types.specs.TypeLists.{DeclaredType, attributes_meant, heading_meant, type_meant}
-use Rattle.td_types.specs.Types.{Attribute, Heading, Type', pack, relation, tuple}
+use Rattle.td_types.specs.model.Headings.{made_heading}
+use Rattle.td_types.specs.model.TypeLists.{DeclaredType, attributes_meant, heading_meant, type_meant}
+use Rattle.td_types.specs.model.Types.{Attribute, Heading, Type', pack, relation, tuple}
 
 -- what an attribute of a tree means
 abbrev pub outcome_of : List DeclaredType → AttributeTree → Outcome Attribute

@@ -9,9 +9,9 @@ use Rattle.std.specs.Ordering.{is_eq, is_lt, ordering_reverse}
 use Rattle.std.proofs.lemmas.Cmp.{alike_right, nat_list_cmp_total}
 use Rattle.std.proofs.lemmas.List.Sorted.{searchable_from_sorted}
 use Rattle.td_types.specs.declared.heading.Attribute as Ty
-use Rattle.td_types.specs.Headings.{IsFound, IsMissing}
+use Rattle.td_types.specs.model.Headings.{IsFound, IsMissing}
 use Rattle.td_types.proofs.HeadingLaws.{name_cmp}
-use Rattle.td_types.specs.Types.{IsAscending, attribute_names, same_name}
+use Rattle.td_types.specs.model.Types.{IsAscending, attribute_names, same_name}
 use Rattle.td_types.specs.code.Views.{heading_view}
 
 less_than : (m n : List ℕ) (xs : List Ty.Attribute) (i : ℕ) (d : Ty.Attribute) → AllByRecursion (λ k. name_cmp m k ≡ Less) (attribute_names (heading_view xs)) → i < length xs

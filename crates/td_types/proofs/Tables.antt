@@ -5,10 +5,10 @@ use Rattle.std.specs.Cmp.Lexicographic.{same_text}
 use Rattle.std.specs.List.{AllByRecursion, position, prefix_len}
 use Rattle.std.specs.Map.{keys_of, lookup}
 use Rattle.std.proofs.lemmas.List.{append_assoc, map-append}
-use Rattle.td_tree.specs.Outcomes.{Outcome, Valued, Refused}
+use Rattle.td_tree.specs.model.Outcomes.{Outcome, Valued, Refused}
 use Rattle.td_types.specs.code.Tables.{IsTable, kept_rank, rows_view}
-use Rattle.td_types.specs.TypeLists.{AreDeclared, DeclaredType, IsDeclarable, declared_at, declared_place, is_declared, user_ranks}
-use Rattle.td_types.specs.Types.{same_name}
+use Rattle.td_types.specs.model.TypeLists.{AreDeclared, DeclaredType, IsDeclarable, declared_at, declared_place, is_declared, user_ranks}
+use Rattle.td_types.specs.model.Types.{same_name}
 use Rattle.td_types.specs.declared.table.Row.{Row}
 use Rattle.td_types.proofs.DeclaredTypes.{AreDeclared-none, AreDeclared-push}
 use Rattle.td_types.proofs.HeadingLaws.{same_name-flips, same_name-itself}

@@ -3,8 +3,8 @@ use Rattle.std.proofs.Common.{◌≡◌, ◌∙◌, ℕ, ◌+◌, ◌<◌, Bool,
 use Rattle.std.proofs.lemmas.List.{at_drop_more}
 use Rattle.td_tree.specs.code.Fronts.{IsBegun, PutsFront}
 use Rattle.td_types.specs.declared.heading.Attribute.{Attribute}
-use Rattle.td_types.specs.Texts.{attributes_text, comma_if, type_text}
-use Rattle.td_types.specs.Types.{pack}
+use Rattle.td_types.specs.model.Texts.{attributes_text, comma_if, type_text}
+use Rattle.td_types.specs.model.Types.{pack}
 use Rattle.td_types.specs.code.Views.{heading_view, type_view}
 
 -- the text of the attributes from one place on

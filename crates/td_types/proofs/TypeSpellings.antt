@@ -2,17 +2,17 @@
 use Rattle.std.proofs.Common.{◌≡◌, ap, sym, refl, ℕ, List, [], ◌∷◌, ◌++◌, Bool, true, false, append-nil, append_assoc, codes, subst}
 use Rattle.td_tree.specs.declared.keyword.Keyword.TheVariants as k
 use Rattle.td_tree.specs.declared.token.Sign.TheVariants as signs
-use Rattle.td_tree.specs.Grammar.{TypeSpelling}
-use Rattle.td_tree.specs.Lexemes.{Lexeme, keyword, sign}
-use Rattle.td_tree.specs.Lexemes as lexeme
-use Rattle.td_tree.specs.Prints.{attribute_lexemes, commas, following, heading_lexemes, type_lexemes}
+use Rattle.td_tree.specs.model.Grammar.{TypeSpelling}
+use Rattle.td_tree.specs.model.Lexemes.{Lexeme, keyword, sign}
+use Rattle.td_tree.specs.model.Lexemes as lexeme
+use Rattle.td_tree.specs.model.Prints.{attribute_lexemes, commas, following, heading_lexemes, type_lexemes}
 use Rattle.td_tree.specs.code.Written.{comma_lexeme_if}
 use Rattle.td_tree.proofs.law_lemmas.Boundaries.{IsBounded}
 use Rattle.td_tree.proofs.law_lemmas.OwnSpellings.{items_after, items_first, items_follow, type_spelled}
 use Rattle.td_tree.proofs.law_lemmas.SeenLaws.{IsSeen, between_braces, close_brace_seen, comma_seen, lexeme_seen, nothing_seen, seen_same, space_seen}
-use Rattle.td_types.specs.Texts.{attributes_text, comma_if, heading_text, type_text}
-use Rattle.td_types.specs.Types.{Type', boolean, integer, char, user, tuple, relation, Attrs, no_attrs, attr, IsHeading, IsType}
-use Rattle.td_types.specs.TypeTrees.{TypeTextsSpellTheirTrees, attribute_trees, type_tree}
+use Rattle.td_types.specs.model.Texts.{attributes_text, comma_if, heading_text, type_text}
+use Rattle.td_types.specs.model.Types.{Type', boolean, integer, char, user, tuple, relation, Attrs, no_attrs, attr, IsHeading, IsType}
+use Rattle.td_types.specs.laws.TypeTrees.{TypeTextsSpellTheirTrees, attribute_trees, type_tree}
 use Rattle.td_types.proofs.TypeTexts.{regroup_3, regroup_5}
 
 -- what stands before a part

@@ -3,9 +3,9 @@ use Rattle.std.proofs.Common.{◌≡◌, ◌∙◌, ap, sym, refl, arith, ℕ, L
 use Rattle.std.specs.Prelude.{is_some}
 use Rattle.td_tree.specs.declared.keyword.Keyword.{Keyword}
 use Rattle.td_tree.specs.declared.keyword.Keyword.TheVariants as keywords
-use Rattle.td_tree.specs.Keywords.{keyword_of}
-use Rattle.td_types.specs.Texts.{attributes_text, comma_if, type_text}
-use Rattle.td_types.specs.Types.{Type', boolean, integer, char, user, tuple, relation, Attrs, no_attrs, attr, IsHeading, IsType}
+use Rattle.td_tree.specs.model.Keywords.{keyword_of}
+use Rattle.td_types.specs.model.Texts.{attributes_text, comma_if, type_text}
+use Rattle.td_types.specs.model.Types.{Type', boolean, integer, char, user, tuple, relation, Attrs, no_attrs, attr, IsHeading, IsType}
 use Rattle.td_types.proofs.Plain.{IsMarked, IsPlain, cut_front, name_plain, name_unreserved, plain_cut, tail_of}
 
 pub regroup_3 : (a b c x : List ℕ) → ((a ++ b) ++ c) ++ x ≡ a ++ (b ++ (c ++ x))

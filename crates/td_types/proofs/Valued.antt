@@ -1,7 +1,7 @@
 -- What a call answers of a value that a test gives.
 use Rattle.std.proofs.Common.{◌≡◌, Bool, true, false, Result, Ok, Err, IfOk, refl}
 use Rattle.std.specs.Prelude.{OnOk}
-use Rattle.td_tree.specs.Outcomes.{Answers, value_if}
+use Rattle.td_tree.specs.model.Outcomes.{Answers, value_if}
 use Rattle.td_tree.specs.declared.cause.Cause.{Cause}
 use Rattle.td_tree.specs.declared.fault.Fault.{Fault}
 use Rattle.td_tree.specs.declared.fault.Fault.TheVariants.{Refused}

@@ -1,11 +1,3 @@
-pub mod Hashes
-pub mod Headings
-pub mod Keys
-pub mod NamedTypes
-pub mod Texts
-pub mod TypeListLaws
-pub mod TypeLists
-pub mod TypeOrder
-pub mod TypeTrees
-pub mod Types
 pub mod code
+pub mod laws
+pub mod model

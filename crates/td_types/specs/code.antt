@@ -1,8 +1,11 @@
 pub mod Depths
 pub mod Falls
+pub mod Hashes
+pub mod Keys
 pub mod NameTests
 pub mod Pairs
 pub mod Tables
 pub mod TypeCode
 pub mod TypeListCode
+pub mod TypeOrder
 pub mod Views

@@ -1,7 +1,7 @@
 //! The hashes of types and headings.
 ghost use Rattle.std.specs.Prelude.{◌≡◌, ◌++◌, fold};
-ghost use Rattle.td_types.specs.Hashes.{fed_heading, fed_type};
-ghost use Rattle.td_types.specs.Types.{pack};
+ghost use Rattle.td_types.specs.code.Hashes.{fed_heading, fed_type};
+ghost use Rattle.td_types.specs.model.Types.{pack};
 ghost use Rattle.td_types.specs.code.Views.{type_view};
 
 use crate::heading::Heading;
@@ -32,7 +32,7 @@ fn feed_heading<H: Hasher>(heading: &Heading, state: &mut H)
 }
 
 impl Hash for Ty {
-    ghost use Rattle.td_types.specs.Hashes.{fed_type, types_fed_alike};
+    ghost use Rattle.td_types.specs.code.Hashes.{fed_type, types_fed_alike};
     ghost use Rattle.td_types.specs.code.Views.{type_view};
 
     ghost hash_input = { λ t. fed_type (type_view t) };
@@ -45,8 +45,8 @@ impl Hash for Ty {
 }
 
 impl Hash for Heading {
-    ghost use Rattle.td_types.specs.Hashes.{fed_heading, headings_fed_alike};
-    ghost use Rattle.td_types.specs.Types.{pack};
+    ghost use Rattle.td_types.specs.code.Hashes.{fed_heading, headings_fed_alike};
+    ghost use Rattle.td_types.specs.model.Types.{pack};
 
     ghost hash_input = { λ h. fed_heading (pack h) };
 

@@ -2,10 +2,11 @@
 ghost use Rattle.std.specs.Prelude.{◌≡◌, ◌↔◌, ◌<◌, ◌^◌, IfErr, IfOk, IsTrue, [], length};
 ghost use Rattle.std.specs.Prelude.{option_map};
 ghost use Rattle.std.specs.Prelude.{slice_get};
-ghost use Rattle.td_tree.specs.Outcomes.{Answers};
-ghost use Rattle.td_types.specs.Headings.{IsFound, IsMap, IsMissing, add_missing, extended_heading};
-ghost use Rattle.td_types.specs.Headings.{made_heading, place_of, types_with};
-ghost use Rattle.td_types.specs.Types.{IsAscending, IsHeading, pack, type_at};
+ghost use Rattle.td_tree.specs.model.Outcomes.{Answers};
+ghost use Rattle.td_types.specs.model.Headings.{IsFound, IsMap, IsMissing, add_missing};
+ghost use Rattle.td_types.specs.model.Headings.{extended_heading, made_heading, place_of};
+ghost use Rattle.td_types.specs.model.Headings.{types_with};
+ghost use Rattle.td_types.specs.model.Types.{IsAscending, IsHeading, pack, type_at};
 ghost use Rattle.td_types.specs.code.Views.{pairs_view, type_view};
 
 use crate::names::repeats_a_name;
@@ -35,7 +36,7 @@ impl Model for Heading {
     ghost use Rattle.std.specs.Prelude.{List, ℕ, map, length};
     ghost use Rattle.td_types.specs.code.Depths.{heading_depth};
     ghost use Rattle.td_types.specs.code.TypeCode.{heading_code};
-    ghost use Rattle.td_types.specs.Types.{Heading, IsHeading, pack};
+    ghost use Rattle.td_types.specs.model.Types.{Heading, IsHeading, pack};
 
     ghost Value = { Heading };
 

@@ -1,13 +1,13 @@
 //! What types and headings are to their callers: each function has its contract alone.
-ghost use Rattle.td_types.specs.Headings.{AgreementIsOneType, RenamingKeepsTypes};
-ghost use Rattle.td_types.specs.Headings.{TypesDetermineHeading};
+ghost use Rattle.td_types.specs.laws.HeadingLaws.{AgreementIsOneType, RenamingKeepsTypes};
+ghost use Rattle.td_types.specs.laws.HeadingLaws.{TypesDetermineHeading};
 ghost use Rattle.td_types.specs.code.NameTests.{NameTestsTell};
-ghost use Rattle.td_types.specs.Texts.{TextsTellTypesApart};
-ghost use Rattle.td_types.specs.TypeListLaws.{ComponentsHaveLesserRanks, KnownTypesHaveRanks};
-ghost use Rattle.td_types.specs.TypeListLaws.{LaterTypesKeepMeanings, LaterTypesKeepNames};
-ghost use Rattle.td_types.specs.TypeListLaws.{LaterTypesKeepRanks, MeantTypesAreKnown};
-ghost use Rattle.td_types.specs.TypeListLaws.{TypeTreesMeanTheirTypes};
-ghost use Rattle.td_types.specs.TypeTrees.{TypeTextsSpellTheirTrees};
+ghost use Rattle.td_types.specs.laws.TextLaws.{TextsTellTypesApart};
+ghost use Rattle.td_types.specs.laws.TypeListLaws.{ComponentsHaveLesserRanks, KnownTypesHaveRanks};
+ghost use Rattle.td_types.specs.laws.TypeListLaws.{LaterTypesKeepMeanings, LaterTypesKeepNames};
+ghost use Rattle.td_types.specs.laws.TypeListLaws.{LaterTypesKeepRanks, MeantTypesAreKnown};
+ghost use Rattle.td_types.specs.laws.TypeListLaws.{TypeTreesMeanTheirTypes};
+ghost use Rattle.td_types.specs.laws.TypeTrees.{TypeTextsSpellTheirTrees};
 
 /// Two headings that give every name the same type are equal.
 pub fn types_determine_heading()

@@ -1,7 +1,7 @@
 //! Whether a user type stands in a type.
 ghost use Rattle.std.specs.Prelude.{◌≡◌};
-ghost use Rattle.td_types.specs.NamedTypes.{any_names_user, names_user};
-ghost use Rattle.td_types.specs.Types.{pack};
+ghost use Rattle.td_types.specs.model.NamedTypes.{any_names_user, names_user};
+ghost use Rattle.td_types.specs.model.Types.{pack};
 ghost use Rattle.td_types.specs.code.Views.{pairs_view, type_view};
 
 use crate::heading::Heading;

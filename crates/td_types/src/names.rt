@@ -3,7 +3,7 @@ ghost use Rattle.std.specs.Prelude.{◌≡◌, ◌∷◌, IfOk, map, not};
 ghost use Rattle.std.specs.Ordering.{is_lt, nat_cmp};
 ghost use Rattle.std.specs.Cmp.Lexicographic.{slice_cmp};
 ghost use Rattle.std.specs.List.Sorted.{IsSortedBy};
-ghost use Rattle.td_types.specs.Headings.{are_distinct, has_name};
+ghost use Rattle.td_types.specs.model.Headings.{are_distinct, has_name};
 
 use std::alloc::{AllocError, Global};
 use td_tree::name::Name;

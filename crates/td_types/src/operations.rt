@@ -1,13 +1,13 @@
 //! Operations that make a heading of headings: each refuses by the cause of headings, or wants
 //! memory.
 ghost use Rattle.std.specs.Prelude.{◌≡◌, IfOk};
-ghost use Rattle.td_tree.specs.Outcomes.{Answers};
-ghost use Rattle.td_types.specs.Headings.{IsMap, agree, common_heading, has_attributes};
-ghost use Rattle.td_types.specs.Headings.{has_projection, have_no_common, is_closable, is_part};
-ghost use Rattle.td_types.specs.Headings.{outside};
-ghost use Rattle.td_types.specs.Headings.{projected_heading, reduced_heading, types_among};
-ghost use Rattle.td_types.specs.Headings.{types_in_both, types_in_either, types_outside};
-ghost use Rattle.td_types.specs.Headings.{types_without, united_heading, without_attribute};
+ghost use Rattle.td_tree.specs.model.Outcomes.{Answers};
+ghost use Rattle.td_types.specs.model.Headings.{IsMap, agree, common_heading, has_attributes};
+ghost use Rattle.td_types.specs.model.Headings.{has_projection, have_no_common, is_closable};
+ghost use Rattle.td_types.specs.model.Headings.{is_part, outside, projected_heading};
+ghost use Rattle.td_types.specs.model.Headings.{reduced_heading, types_among, types_in_both};
+ghost use Rattle.td_types.specs.model.Headings.{types_in_either, types_outside, types_without};
+ghost use Rattle.td_types.specs.model.Headings.{united_heading, without_attribute};
 
 use crate::heading::{Attribute, Heading};
 use crate::names::{are_distinct, is_among};

@@ -1,8 +1,8 @@
 //! The order of types and of headings, and their equality. No output shows the order.
 ghost use Rattle.std.specs.Prelude.{◌≡◌, ◌↔◌, IsTrue};
 ghost use Rattle.std.specs.Ordering.{eq_by_cmp};
-ghost use Rattle.td_types.specs.TypeOrder.{heading_cmp, ty_cmp};
-ghost use Rattle.td_types.specs.Types.{attrs_cmp, pack, type_cmp, type_kind};
+ghost use Rattle.td_types.specs.code.TypeOrder.{ty_cmp};
+ghost use Rattle.td_types.specs.model.Types.{attrs_cmp, heading_cmp, pack, type_cmp, type_kind};
 ghost use Rattle.td_types.specs.code.Views.{heading_view, type_view};
 
 use crate::heading::{Attribute, Heading};
@@ -72,7 +72,7 @@ fn compare_attributes(a: &[Attribute], b: &[Attribute]) -> Ordering
 }
 
 impl PartialEq for Ty {
-    ghost use Rattle.td_types.specs.TypeOrder.{ty_eq_laws};
+    ghost use Rattle.td_types.specs.code.TypeOrder.{ty_eq_laws};
 
     ghost eq = { eq_by_cmp ty_cmp };
 
@@ -87,14 +87,14 @@ impl PartialEq for Ty {
 }
 
 impl Eq for Ty {
-    ghost use Rattle.td_types.specs.TypeOrder.{ty_eq_equiv};
+    ghost use Rattle.td_types.specs.code.TypeOrder.{ty_eq_equiv};
 
     ghost laws = { ty_eq_equiv };
 }
 
 impl PartialOrd for Ty {
     ghost use Rattle.std.specs.Ordering.{as_partial_cmp};
-    ghost use Rattle.td_types.specs.TypeOrder.{ty_cmp, ty_partial_laws};
+    ghost use Rattle.td_types.specs.code.TypeOrder.{ty_cmp, ty_partial_laws};
 
     ghost partial_cmp = { as_partial_cmp ty_cmp };
 
@@ -107,7 +107,7 @@ impl PartialOrd for Ty {
 
 impl Ord for Ty {
     ghost use Rattle.std.specs.Prelude.{refl};
-    ghost use Rattle.td_types.specs.TypeOrder.{ty_cmp, ty_cmp_total};
+    ghost use Rattle.td_types.specs.code.TypeOrder.{ty_cmp, ty_cmp_total};
 
     ghost cmp = { ty_cmp };
 
@@ -132,7 +132,7 @@ impl Heading {
 }
 
 impl PartialEq for Heading {
-    ghost use Rattle.td_types.specs.TypeOrder.{heading_eq_laws};
+    ghost use Rattle.td_types.specs.code.TypeOrder.{heading_eq_laws};
 
     ghost eq = { eq_by_cmp heading_cmp };
 
@@ -147,14 +147,14 @@ impl PartialEq for Heading {
 }
 
 impl Eq for Heading {
-    ghost use Rattle.td_types.specs.TypeOrder.{heading_eq_equiv};
+    ghost use Rattle.td_types.specs.code.TypeOrder.{heading_eq_equiv};
 
     ghost laws = { heading_eq_equiv };
 }
 
 impl PartialOrd for Heading {
     ghost use Rattle.std.specs.Ordering.{as_partial_cmp};
-    ghost use Rattle.td_types.specs.TypeOrder.{heading_partial_laws};
+    ghost use Rattle.td_types.specs.code.TypeOrder.{heading_partial_laws};
 
     ghost partial_cmp = { as_partial_cmp heading_cmp };
 
@@ -167,7 +167,7 @@ impl PartialOrd for Heading {
 
 impl Ord for Heading {
     ghost use Rattle.std.specs.Prelude.{refl};
-    ghost use Rattle.td_types.specs.TypeOrder.{heading_cmp_total};
+    ghost use Rattle.td_types.specs.code.TypeOrder.{heading_cmp_total};
 
     ghost cmp = { heading_cmp };
 

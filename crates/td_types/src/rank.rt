@@ -1,10 +1,10 @@
 //! The rank of a type.
 ghost use Rattle.std.specs.Prelude.{◌≡◌, ◌+◌, List, ℕ};
-ghost use Rattle.td_tree.specs.Outcomes.{Answers, Outcome, Valued, with_value};
+ghost use Rattle.td_tree.specs.model.Outcomes.{Answers, Outcome, Valued, with_value};
 ghost use Rattle.td_types.specs.code.Tables.{kept_rank};
-ghost use Rattle.td_types.specs.TypeLists.{DeclaredType, greatest_rank, limited_rank};
-ghost use Rattle.td_types.specs.TypeLists.{rank_limit, rank_of, user_ranks};
-ghost use Rattle.td_types.specs.Types.{Type', pack, tuple};
+ghost use Rattle.td_types.specs.model.TypeLists.{DeclaredType, greatest_rank, limited_rank};
+ghost use Rattle.td_types.specs.model.TypeLists.{rank_limit, rank_of, user_ranks};
+ghost use Rattle.td_types.specs.model.Types.{Type', pack, tuple};
 ghost use Rattle.td_types.specs.code.Views.{pairs_view, type_view};
 
 use crate::heading::Heading;

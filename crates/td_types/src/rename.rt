@@ -1,10 +1,10 @@
 //! Renaming: each renaming is a pair of an old and a new name, and all are done at once.
 ghost use Rattle.std.specs.Prelude.{◌≡◌, IfOk};
-ghost use Rattle.td_tree.specs.Outcomes.{Answers};
-ghost use Rattle.td_types.specs.Headings.{IsMap, can_rename, new_name, new_names};
-ghost use Rattle.td_types.specs.Headings.{renamed_attributes};
-ghost use Rattle.td_types.specs.Headings.{renamed_heading};
-ghost use Rattle.td_types.specs.Types.{type_at};
+ghost use Rattle.td_tree.specs.model.Outcomes.{Answers};
+ghost use Rattle.td_types.specs.model.Headings.{IsMap, can_rename, new_name, new_names};
+ghost use Rattle.td_types.specs.model.Headings.{renamed_attributes};
+ghost use Rattle.td_types.specs.model.Headings.{renamed_heading};
+ghost use Rattle.td_types.specs.model.Types.{type_at};
 
 use crate::heading::Heading;
 use crate::names::{are_distinct, names_of};

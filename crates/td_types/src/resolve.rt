@@ -1,11 +1,11 @@
 //! The type that a type tree means where types are declared.
-ghost use Rattle.td_tree.specs.Outcomes.{Answers, Outcome, Valued, value_if, with_value};
+ghost use Rattle.td_tree.specs.model.Outcomes.{Answers, Outcome, Valued, value_if, with_value};
 ghost use Rattle.td_tree.specs.code.TreeViews.{heading_tree_view, type_tree_view};
 ghost use Rattle.td_tree.specs.declared.cause.Cause.TheVariants as causes;
 ghost use Rattle.td_types.specs.code.Pairs.{pair_view};
-ghost use Rattle.td_types.specs.TypeLists.{attributes_meant, heading_meant, is_declared};
-ghost use Rattle.td_types.specs.TypeLists.{type_meant};
-ghost use Rattle.td_types.specs.Types.{pack, relation, tuple, user};
+ghost use Rattle.td_types.specs.model.TypeLists.{attributes_meant, heading_meant, is_declared};
+ghost use Rattle.td_types.specs.model.TypeLists.{type_meant};
+ghost use Rattle.td_types.specs.model.Types.{pack, relation, tuple, user};
 ghost use Rattle.td_types.specs.code.Views.{pairs_view, type_view};
 
 use crate::heading::Heading;

@@ -2,13 +2,14 @@
 ghost use Rattle.std.specs.Prelude.{◌≡◌, ◌↔◌, ◌++◌, ◌∷◌, [], IfOk, IsTrue, OnErr, OnOk, map, not};
 ghost use Rattle.std.specs.Prelude.{length, option_map, slice_get};
 ghost use Rattle.td_tree.specs.code.TreeViews.{tree_view};
-ghost use Rattle.td_types.specs.Headings.{are_distinct};
-ghost use Rattle.td_types.specs.NamedTypes.{is_component, without_declared};
+ghost use Rattle.td_types.specs.model.Headings.{are_distinct};
+ghost use Rattle.td_types.specs.model.NamedTypes.{is_component, without_declared};
 ghost use Rattle.td_types.specs.code.Pairs.{ArePairs};
 ghost use Rattle.td_types.specs.code.Tables.{kept_rank};
-ghost use Rattle.td_types.specs.TypeLists.{AreDeclared, AreKnown, IsKnown, declared_at};
-ghost use Rattle.td_types.specs.TypeLists.{declared_place, declared_type, is_declared, user_ranks};
-ghost use Rattle.td_types.specs.Types.{attribute_names, pack};
+ghost use Rattle.td_types.specs.model.TypeLists.{AreDeclared, AreKnown, IsKnown, declared_at};
+ghost use Rattle.td_types.specs.model.TypeLists.{declared_place, declared_type, is_declared};
+ghost use Rattle.td_types.specs.model.TypeLists.{user_ranks};
+ghost use Rattle.td_types.specs.model.Types.{attribute_names, pack};
 ghost use Rattle.td_types.specs.code.Views.{pairs_view, type_view};
 
 use crate::rank::{components_rank, type_rank};
@@ -32,7 +33,7 @@ impl Model for TypeEntry {
     ghost use Rattle.std.specs.Prelude.{option_map};
     ghost use Rattle.td_tree.specs.code.TreeViews.{tree_view};
     ghost use Rattle.td_types.specs.code.TypeListCode.{declared_code};
-    ghost use Rattle.td_types.specs.TypeLists.{DeclaredType, declared_type};
+    ghost use Rattle.td_types.specs.model.TypeLists.{DeclaredType, declared_type};
     ghost use Rattle.td_types.specs.code.Views.{pairs_view};
 
     ghost Value = { DeclaredType };
@@ -76,7 +77,7 @@ pub struct TypeTable {
 impl Model for TypeTable {
     ghost use Rattle.std.specs.Prelude.{List};
     ghost use Rattle.td_types.specs.code.TypeListCode.{declared_list_code};
-    ghost use Rattle.td_types.specs.TypeLists.{DeclaredType};
+    ghost use Rattle.td_types.specs.model.TypeLists.{DeclaredType};
 
     ghost Value = { List DeclaredType };
 

@@ -2,8 +2,8 @@
 ghost use Rattle.std.specs.Prelude.{◌≡◌, ◌++◌, IfOk, OnErr, OnOk};
 ghost use Rattle.std.specs.String.{string_bytes};
 ghost use Rattle.td_tree.specs.code.Fronts.{PutsFront};
-ghost use Rattle.td_types.specs.Texts.{comma_if, heading_text, type_text};
-ghost use Rattle.td_types.specs.Types.{pack, relation};
+ghost use Rattle.td_types.specs.model.Texts.{comma_if, heading_text, type_text};
+ghost use Rattle.td_types.specs.model.Types.{pack, relation};
 ghost use Rattle.td_types.specs.code.Views.{type_view};
 
 use crate::heading::Heading;

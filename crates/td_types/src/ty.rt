@@ -1,5 +1,5 @@
 //! Types.
-ghost use Rattle.td_types.specs.Types.{IsType};
+ghost use Rattle.td_types.specs.model.Types.{IsType};
 ghost use Rattle.td_types.specs.code.Views.{type_view};
 
 use crate::heading::Heading;

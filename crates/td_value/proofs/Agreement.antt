@@ -9,12 +9,13 @@ use Rattle.std.specs.List.Sorted.{IsStrictlySortedBy}
 use Rattle.std.specs.FinMap.Entries.{below_all, find, find-where_key, is_sorted, same_entries}
 use Rattle.std.proofs.lemmas.Cmp.{nat_list_cmp_total}
 use Rattle.std.proofs.lemmas.Map.Lookups.{exact_bytes}
-use Rattle.td_types.specs.Headings.{has_name}
+use Rattle.td_types.specs.model.Headings.{has_name}
 use Rattle.td_types.proofs.HeadingLaws.{name_cmp, same_name-ties}
-use Rattle.td_value.specs.Agreement.{AgreeOn, AgreementIsOfValues, ProjectionsKeepValues, TuplesAreTheirValues, agree_on}
+use Rattle.td_value.specs.model.Agreement.{AgreeOn, agree_on}
+use Rattle.td_value.specs.laws.AgreementLaws.{AgreementIsOfValues, ProjectionsKeepValues, TuplesAreTheirValues}
 use Rattle.td_value.specs.code.ValueCode.{unpack_pack_fields}
-use Rattle.td_value.specs.ValueOrder.{tuple_Decides}
-use Rattle.td_value.specs.Values.{Tuple, IsTuple, projected_tuple, tuple_names, value_at}
+use Rattle.td_value.specs.code.ValueOrder.{tuple_Decides}
+use Rattle.td_value.specs.model.Values.{Tuple, IsTuple, projected_tuple, tuple_names, value_at}
 use Rattle.td_value.proofs.Kept.{IsTuple-filter}
 
 -- the value of a name is what std's look-up finds

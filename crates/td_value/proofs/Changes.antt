@@ -4,12 +4,11 @@ use Rattle.std.specs.declared.cmp.Ordering.{Ordering}
 use Rattle.std.specs.declared.cmp.Ordering.TheVariants.{Less, Equal, Greater}
 use Rattle.std.specs.List.{All}
 use Rattle.std.proofs.lemmas.List.Kept.{IsStrictlySortedBy-filter}
-use Rattle.td_types.specs.Types.{Heading, IsHeading, Attrs, pack}
-use Rattle.td_value.specs.Sets.{put_in}
-use Rattle.td_value.specs.Values.{Tuple, AreRows, IsAscendingBody, IsRelation, IsTuple, IsTupleOf, fields_type, pack_fields, pack_rows, tuple_cmp}
+use Rattle.td_types.specs.model.Types.{Heading, IsHeading, Attrs, pack}
+use Rattle.td_value.specs.model.Sets.{put_in}
+use Rattle.td_value.specs.model.Values.{Tuple, AreRows, IsAscendingBody, IsRelation, IsTuple, IsTupleOf, fields_type, pack_fields, pack_rows, tuple_cmp, relation_view}
 use Rattle.td_value.specs.code.ValueCode.{unpack_pack_rows}
-use Rattle.td_value.specs.ValueOrder.{tuple_order_total, tuple_order_same}
-use Rattle.td_value.specs.code.Views.{relation_view}
+use Rattle.td_value.specs.code.ValueOrder.{tuple_order_total, tuple_order_same}
 use Rattle.td_value.proofs.HeadingOf.{fields_type-heading}
 use Rattle.td_value.proofs.Rows.{AreRows-from}
 use Rattle.td_value.proofs.SetLaws.{put_in-ascends}

@@ -1,8 +1,8 @@
 -- Names with at least as many values: the tuple of the first of these.
 use Rattle.std.proofs.Common.{◌≡◌, ◌≤◌, ℕ, zero, suc, List, [], ◌∷◌, length, refl, arith, ap, take}
 use Rattle.std.specs.List.{All}
-use Rattle.td_tree.specs.Names.{IsName}
-use Rattle.td_value.specs.Values.{Tuple, Val, AreFields, AreValues, IsTuple, pack_fields, pack_parts, tuple_names}
+use Rattle.td_tree.specs.model.Names.{IsName}
+use Rattle.td_value.specs.model.Values.{Tuple, Val, AreFields, AreValues, IsTuple, pack_fields, pack_parts, tuple_names}
 use Rattle.td_value.specs.code.Depths.{parts_depth, tuple_depth}
 use Rattle.td_value.specs.code.ValueCode.{unpack_pack_fields}
 use Rattle.td_value.specs.code.Views.{tuple_view, values_of}

@@ -2,7 +2,7 @@
 use denote.Param.Weighed.{most}
 use Rattle.std.proofs.Common.{◌≡◌, ◌≤◌, ◌*◌, List, [], ◌∷◌, arith, sym, subst}
 use Rattle.td_value.specs.declared.relation.Rel.TheDeep.{size-Value}
-use Rattle.td_value.specs.Values.{Tuple, Val}
+use Rattle.td_value.specs.model.Values.{Tuple, Val}
 use Rattle.td_value.specs.code.Depths.{tuple_depth}
 use Rattle.td_value.specs.code.Views.{values_of}
 

@@ -8,11 +8,11 @@ use Rattle.std.specs.Cmp.Lexicographic.{slice_cmp, texts_ties}
 use Rattle.std.specs.List.{slice_get}
 use Rattle.std.proofs.lemmas.List.{at_drop_more, drop_all}
 use Rattle.std.proofs.lemmas.Option.{get_or_from_slice_get, slice_get_within}
-use Rattle.td_types.specs.Types.{Attribute, Heading, Attrs, tuple, Type', attrs_cmp, no_attrs, pack, same_name, type_cmp}
+use Rattle.td_types.specs.model.Types.{Attribute, Heading, Attrs, tuple, Type', attrs_cmp, no_attrs, pack, same_name, type_cmp}
 use Rattle.std.proofs.lemmas.Cmp.{tied_itself}
-use Rattle.td_types.specs.TypeOrder.{type_cmp_total, type_same}
-use Rattle.td_value.specs.ValueOrder.{equal_from}
-use Rattle.td_value.specs.Values.{Val, type_of}
+use Rattle.td_types.specs.code.TypeOrder.{type_cmp_total, type_same}
+use Rattle.td_value.specs.code.ValueOrder.{equal_from}
+use Rattle.td_value.specs.model.Values.{Val, type_of}
 use Rattle.td_value.specs.code.Zipped.{entries_fit}
 
 eq_then : (o p : Ordering) → is_eq (ordering_then o p) ≡ (is_eq o && is_eq p)

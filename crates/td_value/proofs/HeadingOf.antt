@@ -8,9 +8,9 @@ use Rattle.std.specs.List.Sorted.{IsStrictlySortedBy}
 use Rattle.std.specs.FinMap.Entries.{put}
 use Rattle.std.proofs.lemmas.Cmp.{nat_list_cmp_total}
 use Rattle.std.proofs.lemmas.List.{at_drop_more, length-take, map-append, take-append-drop, take_more}
-use Rattle.td_types.specs.Types.{Type', attr, pack}
-use Rattle.td_types.specs.Headings.{has_attribute, with_attribute}
-use Rattle.td_value.specs.Values.{Val, Tuple, fields_type, heading_of, pack_fields, type_of}
+use Rattle.td_types.specs.model.Types.{Type', attr, pack}
+use Rattle.td_types.specs.model.Headings.{has_attribute, with_attribute}
+use Rattle.td_value.specs.model.Values.{Val, Tuple, fields_type, heading_of, pack_fields, type_of}
 use Rattle.td_value.specs.code.Views.{tuple_view}
 use Rattle.td_types.proofs.DistinctNames.{name_cmp}
 

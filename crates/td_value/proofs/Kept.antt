@@ -4,7 +4,7 @@ use Rattle.std.specs.declared.cmp.Ordering.TheVariants.{Less}
 use Rattle.std.specs.List.{AllByRecursion}
 use Rattle.std.specs.List.Sorted.{IsStrictlySortedBy}
 use Rattle.std.proofs.lemmas.List.{at_drop_more}
-use Rattle.td_value.specs.Values.{Val, AreFields, Tuple, IsTuple, tuple_names, pack_fields}
+use Rattle.td_value.specs.model.Values.{Val, AreFields, Tuple, IsTuple, tuple_names, pack_fields}
 use Rattle.td_value.specs.code.ValueCode.{unpack_pack_fields}
 use Rattle.td_value.specs.code.Views.{tuple_view}
 use Rattle.td_value.proofs.HeadingOf.{zip-append}

@@ -2,12 +2,13 @@
 use Rattle.std.proofs.Common.{◌≡◌, ◌∙◌, ◌++◌, ap, refl, sym, subst, arith, map, ℕ, zero, suc, List, [], ◌∷◌}
 use Rattle.std.specs.Prelude.{is_some}
 use Rattle.std.specs.List.{Contains}
-use Rattle.td_types.specs.TypeLists.{AreKnown, DeclaredType}
-use Rattle.td_types.specs.Types.{Type', Attribute, Attrs, no_attrs, attr, Heading, pack}
-use Rattle.td_types.specs.Types as types
+use Rattle.td_types.specs.model.TypeLists.{AreKnown, DeclaredType}
+use Rattle.td_types.specs.model.Types.{Type', Attribute, Attrs, no_attrs, attr, Heading, pack}
+use Rattle.td_types.specs.model.Types as types
 use Rattle.td_types.proofs.KnownTypes.{all_known_more, declared_more}
-use Rattle.td_value.specs.KnownValues.{AreOfTypes, HasHeading, HasType, HaveHeading, KnownValuesHaveKnownTypes, KnownValuesHaveTheirTypes, LongerListsKeepTypes, TuplesHaveTheHeadingsOfTheirValues, UserValuesAreOfTheirTypes, ValuesHaveOneType}
-use Rattle.td_value.specs.Values.{Val, boolean, integer, char, user, tuple, relation, Parts, no_parts, part, Fields, no_fields, field, Rows, no_rows, row, Tuple, HaveTypesOf, fields_type, heading_of, pack_fields, pack_parts, type_of}
+use Rattle.td_value.specs.model.KnownValues.{AreOfTypes, HasHeading, HasType, HaveHeading}
+use Rattle.td_value.specs.laws.KnownValueLaws.{KnownValuesHaveKnownTypes, KnownValuesHaveTheirTypes, LongerListsKeepTypes, TuplesHaveTheHeadingsOfTheirValues, UserValuesAreOfTheirTypes, ValuesHaveOneType}
+use Rattle.td_value.specs.model.Values.{Val, boolean, integer, char, user, tuple, relation, Parts, no_parts, part, Fields, no_fields, field, Rows, no_rows, row, Tuple, HaveTypesOf, fields_type, heading_of, pack_fields, pack_parts, type_of}
 
 mutual
   pub kept : LongerListsKeepTypes

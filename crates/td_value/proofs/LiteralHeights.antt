@@ -1,14 +1,14 @@
 -- The height of the tree that a value's literal spells, by the rank of the value's type.
 use Rattle.std.proofs.Common.{◌≡◌, ◌∙◌, ℕ, ◌+◌, ◌*◌, ◌≤◌, List, [], ◌∷◌, ap, sym, arith, pos, negsuc}
-use Rattle.td_tree.specs.Heights.{highest, highest_named}
-use Rattle.td_tree.specs.Outcomes.{Valued}
-use Rattle.td_types.specs.TypeLists.{AreDeclared, DeclaredType, greatest_rank, rank_of, rank_over, user_ranks}
-use Rattle.td_types.specs.Types.{Attribute, Attrs, no_attrs, attr, pack}
+use Rattle.td_tree.specs.model.Heights.{highest, highest_named}
+use Rattle.td_tree.specs.model.Outcomes.{Valued}
+use Rattle.td_types.specs.model.TypeLists.{AreDeclared, DeclaredType, greatest_rank, rank_of, rank_over, user_ranks}
+use Rattle.td_types.specs.model.Types.{Attribute, Attrs, no_attrs, attr, pack}
 use Rattle.td_types.proofs.RankBounds.{greatest_of, heading_low, one_more, rank_positive, user_ranks_positive}
 use Rattle.td_types.proofs.Ranks.{rank_of_declared}
-use Rattle.td_value.specs.KnownValues.{AreOfTypes, HasHeading, HaveHeading}
-use Rattle.td_value.specs.LiteralTrees.{LiteralsAreLow, field_trees, part_trees, row_trees}
-use Rattle.td_value.specs.Values.{boolean, integer, char, user, tuple, relation, Parts, no_parts, part, Fields, no_fields, field, Rows, no_rows, row}
+use Rattle.td_value.specs.model.KnownValues.{AreOfTypes, HasHeading, HaveHeading}
+use Rattle.td_value.specs.laws.LiteralTrees.{LiteralsAreLow, field_trees, part_trees, row_trees}
+use Rattle.td_value.specs.model.Values.{boolean, integer, char, user, tuple, relation, Parts, no_parts, part, Fields, no_fields, field, Rows, no_rows, row}
 
 mutual
   pub low : LiteralsAreLow

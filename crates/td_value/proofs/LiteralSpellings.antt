@@ -4,27 +4,27 @@ use Rattle.std.specs.Fmt.{decimal}
 use Rattle.std.proofs.lemmas.Int.{ints}
 use Rattle.td_tree.specs.declared.keyword.Keyword.TheVariants as k
 use Rattle.td_tree.specs.declared.token.Sign.TheVariants as signs
-use Rattle.td_tree.specs.Grammar as g
-use Rattle.td_tree.specs.Grammar.{Spelling, loosest}
-use Rattle.td_tree.specs.Lexemes.{Lexeme, keyword, sign}
-use Rattle.td_tree.specs.Lexemes as lexeme
-use Rattle.td_tree.specs.Numbers.{numeral_limit}
-use Rattle.td_tree.specs.Prints.{all_lexemes, commas, following, heading_lexemes, lexemes_of, part_lexemes}
-use Rattle.td_tree.specs.Trees as trees
-use Rattle.td_tree.specs.Lists.{with_braces, with_parentheses}
+use Rattle.td_tree.specs.model.Grammar as g
+use Rattle.td_tree.specs.model.Grammar.{Spelling, loosest}
+use Rattle.td_tree.specs.model.Lexemes.{Lexeme, keyword, sign}
+use Rattle.td_tree.specs.model.Lexemes as lexeme
+use Rattle.td_tree.specs.model.Numbers.{numeral_limit}
+use Rattle.td_tree.specs.model.Prints.{all_lexemes, commas, following, heading_lexemes, lexemes_of, part_lexemes}
+use Rattle.td_tree.specs.model.Trees as trees
+use Rattle.td_tree.specs.model.Lists.{with_braces, with_parentheses}
 use Rattle.td_tree.specs.code.Written.{comma_lexeme_if}
 use Rattle.td_tree.proofs.law_lemmas.Boundaries.{IsBounded}
 use Rattle.td_tree.proofs.law_lemmas.OwnSpellings.{AllNamedSpelled, AllSpelled, IsSpelled, at_level, heading_spelled, items_after, items_first, items_follow, list_spelled, tuple_spelled}
 use Rattle.td_tree.proofs.law_lemmas.SeenLaws.{IsSeen, between_braces, between_parentheses, close_brace_seen, close_parenthesis_seen, lexeme_seen, minus_seen, nothing_seen, seen_same, space_seen}
-use Rattle.td_types.specs.Texts.{comma_if, type_text}
-use Rattle.td_types.specs.Types.{Attrs}
-use Rattle.td_types.specs.Types as types
-use Rattle.td_types.specs.TypeTrees.{attribute_trees}
+use Rattle.td_types.specs.model.Texts.{comma_if, type_text}
+use Rattle.td_types.specs.model.Types.{Attrs}
+use Rattle.td_types.specs.model.Types as types
+use Rattle.td_types.specs.laws.TypeTrees.{attribute_trees}
 use Rattle.td_types.proofs.TypeSpellings.{comma_if_seen, regroup_items, type_seen}
 use Rattle.td_types.proofs.TypeTexts.{regroup_3, regroup_5}
-use Rattle.td_value.specs.Literal.{literal, fields_literal, parts_literal, rows_literal}
-use Rattle.td_value.specs.LiteralTrees.{LiteralsSpellTheirTrees, field_trees, literal_tree, part_trees, row_trees}
-use Rattle.td_value.specs.Values.{Val, boolean, integer, char, user, tuple, relation, Parts, no_parts, part, Fields, no_fields, field, Rows, no_rows, row, AreFields, AreRows, AreValues, IsInRange, IsValue}
+use Rattle.td_value.specs.model.Literal.{literal, fields_literal, parts_literal, rows_literal}
+use Rattle.td_value.specs.laws.LiteralTrees.{LiteralsSpellTheirTrees, field_trees, literal_tree, part_trees, row_trees}
+use Rattle.td_value.specs.model.Values.{Val, boolean, integer, char, user, tuple, relation, Parts, no_parts, part, Fields, no_fields, field, Rows, no_rows, row, AreFields, AreRows, AreValues, IsInRange, IsValue}
 
 -- ---- the lexemes of a literal's tree spell it
 

@@ -3,10 +3,10 @@ use Rattle.std.proofs.Common.{◌≡◌, ◌≤◌, ◌<◌, ◌+◌, ℕ, zero,
 use Rattle.std.proofs.Common.{◌-◌, ◌∙◌, ◌++◌, ap, sym, subst, append_assoc, append-nil, length-append, max, take}
 use Rattle.std.proofs.lemmas.List.{length-drop, length-take, drop-drop, take-append-drop}
 use Rattle.td_value.proofs.Cut.{cut_first, cut_length, cut_names, cut_tuple, zip_depth}
-use Rattle.td_value.specs.Values.{AreValues, IsTuple, Tuple, Val, pack_parts, tuple_names}
+use Rattle.td_value.specs.model.Values.{AreValues, IsTuple, Tuple, Val, pack_parts, tuple_names}
 use Rattle.td_value.specs.code.Blocks.{AreAsDeep, AreOfDepth, AreWhole, IsRow, row_view, rows_of}
-use Rattle.td_value.specs.code.Depths.{parts_depth, tuple_depth}
-use Rattle.td_value.specs.code.Views.{tuple_view}
+use Rattle.td_value.specs.code.Depths.{depth, parts_depth, tuple_depth}
+use Rattle.td_value.specs.code.Views.{tuple_view, values_of}
 use Rattle.td_value.specs.code.Zipped.{AreNames}
 
 -- the only row of a block
@@ -146,6 +146,11 @@ depth_first ns (suc k) start d vs p e h =
 pub none_of_depth : (ns : List (List ℕ)) (left d : ℕ) (vs : List Val) → left ≤ 0 → AreOfDepth ns left vs d
 none_of_depth ns zero d vs e = tt
 none_of_depth ns (suc k) d vs e = absurd (omega (arith, e))
+
+-- a tuple nests as deep as its values do
+pub values_depth : (t : Tuple) → parts_depth (pack_parts (values_of t)) ≡ tuple_depth t
+values_depth [] = refl
+values_depth (e ∷ t) = ap (max (suc (depth e.1))) (values_depth t)
 
 pub positive : (n : ℕ) → (n ≡ 0 → ⊥) → 0 < n
 positive zero h = absurd (h refl)

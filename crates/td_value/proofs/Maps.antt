@@ -9,12 +9,12 @@ use Rattle.std.specs.List.Sorted.{IsPermutation, IsStrictlySortedBy}
 use Rattle.std.proofs.lemmas.List.Sorted.{list_any-IsPermutation}
 use Rattle.std.proofs.lemmas.Cmp.{nat_list_eq_equiv}
 use Rattle.std.specs.Ordering.{eq_by_cmp}
-use Rattle.td_types.specs.Types.{same_name}
-use Rattle.td_types.specs.Headings.{are_distinct, has_name}
-use Rattle.td_value.specs.Sets.{put_in}
+use Rattle.td_types.specs.model.Types.{same_name}
+use Rattle.td_types.specs.model.Headings.{are_distinct, has_name}
+use Rattle.td_value.specs.model.Sets.{put_in}
 use Rattle.td_value.proofs.SetLaws.{is_set_of}
-use Rattle.td_value.specs.Values.{Val, Tuple, entry_cmp, tuple_names, tuple_of, value_at}
-use Rattle.td_value.specs.ValueOrder.{entry_order_total, entry_order_same}
+use Rattle.td_value.specs.model.Values.{Val, Tuple, entry_cmp, tuple_names, tuple_of, value_at}
+use Rattle.td_value.specs.code.ValueOrder.{entry_order_total, entry_order_same}
 use Rattle.td_types.proofs.DistinctNames.{name_cmp, first_of, second_of}
 
 rising_entries : (e : List ℕ × Val) (es : Tuple) → AllByRecursion (λ m. name_cmp e.0 m ≡ Less) (tuple_names es) → AllByRecursion (λ f. entry_cmp e f ≡ Less) es

@@ -1,16 +1,17 @@
 -- Sets of tuples by their members.
 use Rattle.std.proofs.Common.{◌≡◌, ◌∙◌, ◌++◌, ◌⊎◌, inl, inr, refl, sym, subst, Bool, true, false, List}
-use Rattle.std.specs.List.{Contains}
+use Rattle.std.specs.List.{All, Contains}
 use Rattle.std.specs.List.Sorted.{IsStrictlySortedBy}
 use Rattle.std.proofs.lemmas.Cmp.{eq_by_cmp_equiv}
-use Rattle.std.proofs.lemmas.List.Elements.{Contains-append_cases, Contains-append_left, Contains-append_right}
+use Rattle.std.proofs.lemmas.List.Elements.{All-contains, All-contains_itself, Contains-append_cases, Contains-append_left, Contains-append_right}
 use Rattle.std.proofs.lemmas.Map.Views.{Contains-from_any, list_any-from_Contains}
-use Rattle.td_value.specs.Laws.{RelationsAreTheirMembers, SetsHaveTheMembersOfTheirLists, SetsOfJoinedLists}
-use Rattle.td_value.specs.Sets.{has, set_of}
+use Rattle.td_types.specs.model.Types.{Heading}
+use Rattle.td_value.specs.laws.Laws.{RelationsAreTheirMembers, SetsHaveTheMembersOfTheirLists, SetsOfJoinedLists}
+use Rattle.td_value.specs.model.Sets.{has, set_of}
 use Rattle.td_value.proofs.SetLaws.{has-set_of, same_members}
 use Rattle.td_value.specs.code.ValueCode.{unpack_pack_rows}
-use Rattle.td_value.specs.Values.{Tuple, IsRelation, Relation, tuple_cmp}
-use Rattle.td_value.specs.ValueOrder.{tuple_Decides, tuple_order_same, tuple_order_total}
+use Rattle.td_value.specs.model.Values.{Tuple, IsRelation, IsTupleOf, Relation, tuple_cmp}
+use Rattle.td_value.specs.code.ValueOrder.{tuple_Decides, tuple_order_same, tuple_order_total}
 
 -- a list contains what the test finds
 pub contained : (t : Tuple) (ts : List Tuple) → has tuple_cmp t ts ≡ true → Contains ts t
@@ -24,6 +25,11 @@ pub set_members : SetsHaveTheMembersOfTheirLists
 set_members ts t =
     let same = has-set_of tuple_cmp tuple_order_total tuple_order_same t ts in
     ((λ c. contained t ts (sym same ∙ found t (set_of tuple_cmp ts) c)), (λ c. contained t (set_of tuple_cmp ts) (same ∙ found t ts c)))
+
+-- the set of tuples of a heading has tuples of it
+pub set_headed : (heading : Heading) (given : List Tuple) → All (IsTupleOf heading) given → All (IsTupleOf heading) (set_of tuple_cmp given)
+set_headed heading given all k d p =
+    All-contains (IsTupleOf heading) given _ all ((set_members given _).0 (All-contains_itself (set_of tuple_cmp given) k d p))
 
 pub joined_members : SetsOfJoinedLists
 joined_members ss ts t =

@@ -8,9 +8,9 @@ use Rattle.std.specs.List.Sorted.{IsBinarySearchResult, IsSearchInRange, IsStric
 use Rattle.std.specs.Ordering.{is_eq}
 use Rattle.std.proofs.lemmas.Cmp.{alike_right, nat_list_cmp_total}
 use Rattle.std.proofs.lemmas.List.Sorted.{searchable_from_sorted}
-use Rattle.td_types.specs.Types.{same_name}
+use Rattle.td_types.specs.model.Types.{same_name}
 use Rattle.td_types.proofs.DistinctNames.{name_cmp}
-use Rattle.td_value.specs.Values.{Val, value_at}
+use Rattle.td_value.specs.model.Values.{Val, value_at}
 use Rattle.td_value.specs.code.Views.{tuple_view}
 use Rattle.td_value.proofs.Places.{in_order}
 

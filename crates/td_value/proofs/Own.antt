@@ -1,8 +1,8 @@
 -- A tuple's own names and values.
 use Rattle.std.proofs.Common.{◌≡◌, ◌∙◌, ◌++◌, ℕ, List, [], ◌∷◌, ap, length, refl, sym}
 use Rattle.std.proofs.lemmas.List.{length-map}
-use Rattle.td_value.specs.Hashes.{fed_parts, fed_tuple, fed_value}
-use Rattle.td_value.specs.Values.{Tuple, Val, pack_parts, tuple_names}
+use Rattle.td_value.specs.code.Hashes.{fed_parts, fed_tuple, fed_value}
+use Rattle.td_value.specs.model.Values.{Tuple, Val, pack_parts, tuple_names}
 use Rattle.td_value.specs.code.Views.{tuple_view, values_of}
 use Rattle.td_value.proofs.Zips.{unzipped}
 

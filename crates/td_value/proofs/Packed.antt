@@ -1,6 +1,6 @@
 -- The fields and the rows of a value are those of the entries and of the tuples that they make.
 use Rattle.std.proofs.Common.{◌≡◌, ap, refl}
-use Rattle.td_value.specs.Values.{Fields, Rows, field, no_fields, no_rows, pack_fields, pack_rows, row, unpack_fields, unpack_rows}
+use Rattle.td_value.specs.model.Values.{Fields, Rows, field, no_fields, no_rows, pack_fields, pack_rows, row, unpack_fields, unpack_rows}
 
 pub pack_unpack_fields : (fs : Fields) → pack_fields (unpack_fields fs) ≡ fs
 pack_unpack_fields no_fields = refl

@@ -3,7 +3,7 @@ use Rattle.std.proofs.Common.{◌≡◌, ◌≤◌, ◌<◌, ◌+◌, ◌*◌, �
 use Rattle.std.specs.List.{slice_get}
 use Rattle.std.proofs.Math.Nat.{suc-mul, zero-mul}
 use Rattle.std.proofs.lemmas.List.{length-drop, drop-drop}
-use Rattle.td_value.specs.Values.{Val}
+use Rattle.td_value.specs.model.Values.{Val}
 use Rattle.td_value.specs.code.Blocks.{AreWhole, row_view, rows_of}
 
 pub rows_length : (ns : List (List ℕ)) (k : ℕ) (vs : List Val) → length (rows_of ns k vs) ≡ k

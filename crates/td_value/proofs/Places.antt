@@ -8,10 +8,10 @@ use Rattle.std.specs.List.{AllByRecursion, AllWithin, HoldsAt, filter, insert, r
 use Rattle.std.specs.List.Sorted.{IsBinarySearchResult, IsSearchInRange, IsSortedBy, IsStrictlySortedBy}
 use Rattle.std.specs.Ordering.{eq_by_cmp, is_lt, ordering_reverse}
 use Rattle.std.proofs.lemmas.List.Sorted.{searchable_from_sorted}
-use Rattle.td_value.specs.Places.{IsPlaceFor, IsPlaceOf}
-use Rattle.td_value.specs.Sets.{has, put_in}
-use Rattle.td_value.specs.Values.{Tuple, tuple_cmp}
-use Rattle.td_value.specs.ValueOrder.{equal_from, tuple_order_total, tuple_order_same}
+use Rattle.td_value.specs.code.Places.{IsPlaceFor, IsPlaceOf}
+use Rattle.td_value.specs.model.Sets.{has, put_in}
+use Rattle.td_value.specs.model.Values.{Tuple, tuple_cmp}
+use Rattle.td_value.specs.code.ValueOrder.{equal_from, tuple_order_total, tuple_order_same}
 use Rattle.td_value.proofs.SetLaws.{has-put_in, put_in-ascends, same_members}
 
 module _ {K : Type 0} (R : K → K → Ordering) (o : IsTotalOrder R) (same : (x y : K) → R x y ≡ Equal → x ≡ y) where

@@ -10,11 +10,11 @@ use Rattle.std.proofs.lemmas.List.Sorted.{All-permutation}
 use Rattle.std.proofs.lemmas.Cmp.{on_total, nat_list_cmp_total, tied_itself}
 use Rattle.std.proofs.lemmas.List.Kept.{Contains-from_dedup}
 use Rattle.std.proofs.lemmas.List.Elements.{All-contains, All-contains_itself}
-use Rattle.td_types.specs.Types as heads
-use Rattle.td_types.specs.Types.{Heading, IsHeading, pack, unpack}
+use Rattle.td_types.specs.model.Types as heads
+use Rattle.td_types.specs.model.Types.{Heading, IsHeading, pack, unpack}
 use Rattle.td_types.specs.code.TypeCode.{unpack_pack}
-use Rattle.td_value.specs.Values.{Val, tuple, user, Tuple, value_cmp, AreRows, HaveSameNames, IsTuple, IsTupleOf, fields_type, heading_of, tuple_names, pack_fields, pack_parts, pack_rows, parts_cmp, rows_cmp, tuple_cmp}
-use Rattle.td_value.specs.ValueOrder.{order_total}
+use Rattle.td_value.specs.model.Values.{Val, tuple, user, Tuple, value_cmp, AreRows, HaveSameNames, IsTuple, IsTupleOf, fields_type, heading_of, tuple_names, pack_fields, pack_parts, pack_rows, parts_cmp, rows_cmp, tuple_cmp}
+use Rattle.td_value.specs.code.ValueOrder.{order_total}
 use Rattle.td_value.specs.code.Views.{values_of}
 use Rattle.td_value.proofs.HeadingOf.{fields_type-heading}
 use Rattle.td_value.proofs.Typed.{typed}

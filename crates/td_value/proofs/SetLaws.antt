@@ -9,7 +9,7 @@ use Rattle.std.specs.List.Sorted.{IsPermutation, IsSorted, IsStrictlySortedBy}
 use Rattle.std.proofs.lemmas.List.Kept.{IsStrictlySortedBy-dedup}
 use Rattle.std.proofs.lemmas.List.Sorted.{list_any-IsPermutation}
 use Rattle.std.proofs.Common.{sym, ap, ◌∙◌, true≢false, subst}
-use Rattle.td_value.specs.Sets.{has, put_in, set_of}
+use Rattle.td_value.specs.model.Sets.{has, put_in, set_of}
 
 module _ {K : Type 0} (R : K → K → Ordering) (o : IsTotalOrder R) (same : (x y : K) → R x y ≡ Equal → x ≡ y) where
   -- what is below each item is no item

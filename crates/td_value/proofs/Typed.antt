@@ -5,9 +5,9 @@ use Rattle.std.specs.List.{AllByRecursion}
 use Rattle.std.specs.List.Sorted.{IsStrictlySortedBy}
 use Rattle.std.specs.Ordering.{nat_cmp}
 use Rattle.std.specs.declared.cmp.Ordering.TheVariants.{Less}
-use Rattle.td_types.specs.Types.{IsBefore, IsHeading}
-use Rattle.td_value.specs.Laws.{TypesOfValuesAreTypes}
-use Rattle.td_value.specs.Values.{boolean, integer, char, user, tuple, relation, Fields, no_fields, field, AreFields, fields_type, tuple_names, unpack_fields}
+use Rattle.td_types.specs.model.Types.{IsBefore, IsHeading}
+use Rattle.td_value.specs.laws.Laws.{TypesOfValuesAreTypes}
+use Rattle.td_value.specs.model.Values.{boolean, integer, char, user, tuple, relation, Fields, no_fields, field, AreFields, fields_type, tuple_names, unpack_fields}
 
 before : (n : List ℕ) (fs : Fields) → AllByRecursion (λ m. slice_cmp nat_cmp n m ≡ Less) (tuple_names (unpack_fields fs)) → IsBefore n (fields_type fs)
 before n no_fields h = tt

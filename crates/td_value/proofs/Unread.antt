@@ -8,14 +8,14 @@ use Rattle.std.proofs.lemmas.Fmt.{decimal_injective, decimal_is_IsNumeral}
 use Rattle.std.proofs.lemmas.Bool.Decides.{nat_tests}
 use Rattle.std.proofs.lemmas.Int.{ints}
 use Rattle.std.proofs.lemmas.Str.Parse.{digit_from_value}
-use Rattle.td_types.specs.Types as types
-use Rattle.td_types.specs.Types.{Attrs, Type', no_attrs}
-use Rattle.td_types.specs.Texts.{attributes_text, comma_if, type_text}
+use Rattle.td_types.specs.model.Types as types
+use Rattle.td_types.specs.model.Types.{Attrs, Type', no_attrs}
+use Rattle.td_types.specs.model.Texts.{attributes_text, comma_if, type_text}
 use Rattle.td_types.proofs.Plain.{IsMarked, IsPlain, cut_front, is_mark, name_plain, plain_cut, tail_of}
 use Rattle.td_types.proofs.TypeTexts.{no_name, regroup_3, regroup_5, type_cut}
-use Rattle.td_tree.specs.TextTokens.{with_quotes_doubled}
-use Rattle.td_value.specs.Literal.{literal, fields_literal, parts_literal, rows_literal}
-use Rattle.td_value.specs.Values.{Val, boolean, integer, char, user, tuple, relation, Parts, no_parts, part, Fields, no_fields, field, Rows, no_rows, row, AreFields, AreRows, AreValues, IsInRange, IsValue, value_kind}
+use Rattle.td_tree.specs.model.TextTokens.{with_quotes_doubled}
+use Rattle.td_value.specs.model.Literal.{literal, fields_literal, parts_literal, rows_literal}
+use Rattle.td_value.specs.model.Values.{Val, boolean, integer, char, user, tuple, relation, Parts, no_parts, part, Fields, no_fields, field, Rows, no_rows, row, AreFields, AreRows, AreValues, IsInRange, IsValue, value_kind}
 
 -- nothing stands after a literal, or what closes a list or goes on with it
 abbrev IsClosed : List ℕ → Type 0

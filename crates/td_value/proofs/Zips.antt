@@ -1,12 +1,12 @@
 use Rattle.std.specs.Prelude.{ℕ, List, [], ◌∷◌, length, ◌≡◌, refl, ◌++◌}
 use Rattle.std.proofs.Common.{arith, ap}
 use Rattle.std.specs.List.Sorted.{IsStrictlySortedBy}
-use Rattle.td_tree.specs.Names.{IsName}
+use Rattle.td_tree.specs.model.Names.{IsName}
 use Rattle.td_value.specs.code.ValueCode.{unpack_pack_fields}
 use Rattle.td_value.specs.code.Views.{tuple_view, values_of}
 use Rattle.std.specs.Ordering.{nat_cmp}
 use Rattle.std.specs.Cmp.Lexicographic.{slice_cmp}
-use Rattle.td_value.specs.Values.{Val, Tuple, AreFields, IsValue, IsTuple, tuple_names, pack_fields}
+use Rattle.td_value.specs.model.Values.{Val, Tuple, AreFields, IsValue, IsTuple, tuple_names, pack_fields}
 
 -- a tuple's names and values are those that it was made of
 pub zip_names : (ns : List (List ℕ)) (vs : List Val) → length ns ≡ length vs → tuple_names (tuple_view ns vs) ≡ ns

@@ -1,11 +1,3 @@
-pub mod Agreement
-pub mod Hashes
-pub mod KnownValues
-pub mod Laws
-pub mod Literal
-pub mod LiteralTrees
-pub mod Places
-pub mod Sets
-pub mod ValueOrder
-pub mod Values
 pub mod code
+pub mod laws
+pub mod model

@@ -1,7 +1,10 @@
 pub mod Blocks
 pub mod Depths
 pub mod Falls
+pub mod Hashes
 pub mod Numbers
+pub mod Places
 pub mod ValueCode
+pub mod ValueOrder
 pub mod Views
 pub mod Zipped

@@ -1,7 +1,8 @@
 //! The hashes of values.
 ghost use Rattle.std.specs.Prelude.{◌≡◌, fold};
-ghost use Rattle.td_value.specs.Hashes.{fed_value, fed_parts, fed_rows, fed_tuple, fed_relation};
-ghost use Rattle.td_value.specs.Values.{pack_parts, pack_rows, selected_value};
+ghost use Rattle.td_value.specs.code.Hashes.{fed_value, fed_parts, fed_rows, fed_tuple};
+ghost use Rattle.td_value.specs.code.Hashes.{fed_relation};
+ghost use Rattle.td_value.specs.model.Values.{pack_parts, pack_rows, selected_value};
 
 use crate::relation::Rel;
 use crate::tuple::Tuple;
@@ -66,7 +67,7 @@ fn feed_rows<H: Hasher>(rows: &[Tuple], state: &mut H)
 }
 
 impl Hash for Value {
-    ghost use Rattle.td_value.specs.ValueOrder.{values_fed_alike};
+    ghost use Rattle.td_value.specs.code.ValueOrder.{values_fed_alike};
 
     ghost hash_input = { fed_value };
 
@@ -78,7 +79,7 @@ impl Hash for Value {
 }
 
 impl Hash for Tuple {
-    ghost use Rattle.td_value.specs.ValueOrder.{tuples_fed_alike};
+    ghost use Rattle.td_value.specs.code.ValueOrder.{tuples_fed_alike};
 
     ghost hash_input = { fed_tuple };
 
@@ -90,7 +91,7 @@ impl Hash for Tuple {
 }
 
 impl Hash for Rel {
-    ghost use Rattle.td_value.specs.ValueOrder.{relations_fed_alike};
+    ghost use Rattle.td_value.specs.code.ValueOrder.{relations_fed_alike};
 
     ghost hash_input = { fed_relation };
 

@@ -1,18 +1,19 @@
 //! What sets of tuples, the order of values and their literals are to their callers: each function
 //! has its contract alone.
-ghost use Rattle.td_value.specs.Agreement.{AgreementIsOfValues, ProjectionsKeepValues};
-ghost use Rattle.td_value.specs.Agreement.{TuplesAreTheirValues};
-ghost use Rattle.td_value.specs.KnownValues.{KnownValuesHaveKnownTypes, KnownValuesHaveTheirTypes};
-ghost use Rattle.td_value.specs.KnownValues.{LongerListsKeepTypes, ValuesHaveOneType};
-ghost use Rattle.td_value.specs.KnownValues.{TuplesHaveTheHeadingsOfTheirValues};
-ghost use Rattle.td_value.specs.KnownValues.{UserValuesAreOfTheirTypes};
-ghost use Rattle.td_value.specs.LiteralTrees.{LiteralsAreLow};
-ghost use Rattle.td_value.specs.Laws.{EqualityIsSameness, LiteralsTellValuesApart};
-ghost use Rattle.td_value.specs.Laws.{RelationsAreTheirMembers, RelationsCompareByRows};
-ghost use Rattle.td_value.specs.Laws.{SetsHaveTheMembersOfTheirLists, SetsOfJoinedLists};
-ghost use Rattle.td_value.specs.Laws.{TuplesCompareByValues, TypesOfValuesAreTypes};
-ghost use Rattle.td_value.specs.Laws.{UserValuesCompareByComponents};
-ghost use Rattle.td_value.specs.LiteralTrees.{LiteralsSpellTheirTrees};
+ghost use Rattle.td_value.specs.laws.AgreementLaws.{AgreementIsOfValues, ProjectionsKeepValues};
+ghost use Rattle.td_value.specs.laws.AgreementLaws.{TuplesAreTheirValues};
+ghost use Rattle.td_value.specs.laws.KnownValueLaws.{KnownValuesHaveKnownTypes};
+ghost use Rattle.td_value.specs.laws.KnownValueLaws.{KnownValuesHaveTheirTypes};
+ghost use Rattle.td_value.specs.laws.KnownValueLaws.{LongerListsKeepTypes};
+ghost use Rattle.td_value.specs.laws.KnownValueLaws.{TuplesHaveTheHeadingsOfTheirValues};
+ghost use Rattle.td_value.specs.laws.KnownValueLaws.{UserValuesAreOfTheirTypes, ValuesHaveOneType};
+ghost use Rattle.td_value.specs.laws.LiteralTrees.{LiteralsAreLow};
+ghost use Rattle.td_value.specs.laws.Laws.{EqualityIsSameness, LiteralsTellValuesApart};
+ghost use Rattle.td_value.specs.laws.Laws.{RelationsAreTheirMembers, RelationsCompareByRows};
+ghost use Rattle.td_value.specs.laws.Laws.{SetsHaveTheMembersOfTheirLists, SetsOfJoinedLists};
+ghost use Rattle.td_value.specs.laws.Laws.{TuplesCompareByValues, TypesOfValuesAreTypes};
+ghost use Rattle.td_value.specs.laws.Laws.{UserValuesCompareByComponents};
+ghost use Rattle.td_value.specs.laws.LiteralTrees.{LiteralsSpellTheirTrees};
 
 /// `==` on values, on tuples and on relations tells whether they are the same.
 pub fn equality_is_sameness()

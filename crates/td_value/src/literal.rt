@@ -2,12 +2,12 @@
 ghost use Rattle.std.specs.Prelude.{◌≡◌, ◌++◌, IfOk, OnOk, codes, false, length};
 ghost use Rattle.std.specs.Fmt.{signed_decimal};
 ghost use Rattle.std.specs.String.{string_bytes};
-ghost use Rattle.td_types.specs.Texts.{comma_if, type_text};
-ghost use Rattle.td_types.specs.Types.{pack};
-ghost use Rattle.td_types.specs.Types as types;
-ghost use Rattle.td_value.specs.Literal.{fields_literal, literal, relation_literal};
-ghost use Rattle.td_value.specs.Literal.{rows_literal, tuple_literal};
-ghost use Rattle.td_value.specs.Values.{pack_fields, pack_rows, selected_value};
+ghost use Rattle.td_types.specs.model.Texts.{comma_if, type_text};
+ghost use Rattle.td_types.specs.model.Types.{pack};
+ghost use Rattle.td_types.specs.model.Types as types;
+ghost use Rattle.td_value.specs.model.Literal.{fields_literal, literal, relation_literal};
+ghost use Rattle.td_value.specs.model.Literal.{rows_literal, tuple_literal};
+ghost use Rattle.td_value.specs.model.Values.{pack_fields, pack_rows, selected_value};
 ghost use Rattle.td_value.specs.code.Views.{tuple_view};
 
 use crate::relation::Rel;

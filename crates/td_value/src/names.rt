@@ -4,7 +4,7 @@ ghost use Rattle.std.specs.Ordering.{nat_cmp};
 ghost use Rattle.std.specs.Cmp.Lexicographic.{slice_cmp};
 ghost use Rattle.std.specs.List.{All};
 ghost use Rattle.std.specs.List.Sorted.{IsStrictlySortedBy};
-ghost use Rattle.td_tree.specs.Names.{IsName};
+ghost use Rattle.td_tree.specs.model.Names.{IsName};
 
 use std::alloc::{AllocError, Global};
 use std::marker::Model;

@@ -1,8 +1,8 @@
 //! Value order, and what follows from it.
 ghost use Rattle.std.specs.Prelude.{◌≡◌, length};
-ghost use Rattle.td_value.specs.Values.{value_cmp, pack_parts, pack_rows, parts_cmp, value_kind};
-ghost use Rattle.td_value.specs.Values.{relation_cmp, rows_cmp, selected_value, tuple_cmp};
-ghost use Rattle.td_value.specs.Values.{tuple_names};
+ghost use Rattle.td_value.specs.model.Values.{pack_parts, pack_rows, parts_cmp, relation_cmp};
+ghost use Rattle.td_value.specs.model.Values.{rows_cmp, selected_value, tuple_cmp, tuple_names};
+ghost use Rattle.td_value.specs.model.Values.{value_cmp, value_kind};
 ghost use Rattle.td_value.specs.code.Views.{tuple_view, values_of};
 
 use crate::relation::Rel;
@@ -163,7 +163,7 @@ impl PartialEq for Value {
     ghost use Rattle.std.specs.Ordering.{eq_by_cmp};
     ghost use Rattle.std.specs.Cmp.{partial_equiv_from_equiv};
     ghost use Rattle.std.proofs.lemmas.Cmp.{eq_by_cmp_equiv};
-    ghost use Rattle.td_value.specs.ValueOrder.{order_total};
+    ghost use Rattle.td_value.specs.code.ValueOrder.{order_total};
 
     ghost eq = { eq_by_cmp value_cmp };
 
@@ -176,7 +176,7 @@ impl PartialEq for Value {
 
 impl Eq for Value {
     ghost use Rattle.std.proofs.lemmas.Cmp.{eq_by_cmp_equiv};
-    ghost use Rattle.td_value.specs.ValueOrder.{order_total};
+    ghost use Rattle.td_value.specs.code.ValueOrder.{order_total};
 
     ghost laws = { eq_by_cmp_equiv order_total };
 }
@@ -185,7 +185,7 @@ impl PartialOrd for Value {
     ghost use Rattle.std.specs.Prelude.{refl};
     ghost use Rattle.std.specs.Ordering.{as_partial_cmp};
     ghost use Rattle.std.specs.Cmp.{partial_order_from_agreeing_total};
-    ghost use Rattle.td_value.specs.ValueOrder.{order_total};
+    ghost use Rattle.td_value.specs.code.ValueOrder.{order_total};
 
     ghost partial_cmp = { as_partial_cmp value_cmp };
 
@@ -199,7 +199,7 @@ impl PartialOrd for Value {
 
 impl Ord for Value {
     ghost use Rattle.std.specs.Prelude.{refl};
-    ghost use Rattle.td_value.specs.ValueOrder.{order_total};
+    ghost use Rattle.td_value.specs.code.ValueOrder.{order_total};
 
     ghost cmp = { value_cmp };
 
@@ -218,7 +218,7 @@ impl PartialEq for Tuple {
     ghost use Rattle.std.specs.Ordering.{eq_by_cmp};
     ghost use Rattle.std.specs.Cmp.{partial_equiv_from_equiv};
     ghost use Rattle.std.proofs.lemmas.Cmp.{eq_by_cmp_equiv};
-    ghost use Rattle.td_value.specs.ValueOrder.{tuple_order_total};
+    ghost use Rattle.td_value.specs.code.ValueOrder.{tuple_order_total};
 
     ghost eq = { eq_by_cmp tuple_cmp };
 
@@ -231,7 +231,7 @@ impl PartialEq for Tuple {
 
 impl Eq for Tuple {
     ghost use Rattle.std.proofs.lemmas.Cmp.{eq_by_cmp_equiv};
-    ghost use Rattle.td_value.specs.ValueOrder.{tuple_order_total};
+    ghost use Rattle.td_value.specs.code.ValueOrder.{tuple_order_total};
 
     ghost laws = { eq_by_cmp_equiv tuple_order_total };
 }
@@ -240,7 +240,7 @@ impl PartialOrd for Tuple {
     ghost use Rattle.std.specs.Prelude.{refl};
     ghost use Rattle.std.specs.Ordering.{as_partial_cmp};
     ghost use Rattle.std.specs.Cmp.{partial_order_from_agreeing_total};
-    ghost use Rattle.td_value.specs.ValueOrder.{tuple_order_total};
+    ghost use Rattle.td_value.specs.code.ValueOrder.{tuple_order_total};
 
     ghost partial_cmp = { as_partial_cmp tuple_cmp };
 
@@ -254,7 +254,7 @@ impl PartialOrd for Tuple {
 
 impl Ord for Tuple {
     ghost use Rattle.std.specs.Prelude.{refl};
-    ghost use Rattle.td_value.specs.ValueOrder.{tuple_order_total};
+    ghost use Rattle.td_value.specs.code.ValueOrder.{tuple_order_total};
 
     ghost cmp = { tuple_cmp };
 
@@ -273,7 +273,7 @@ impl PartialEq for Rel {
     ghost use Rattle.std.specs.Ordering.{eq_by_cmp};
     ghost use Rattle.std.specs.Cmp.{partial_equiv_from_equiv};
     ghost use Rattle.std.proofs.lemmas.Cmp.{eq_by_cmp_equiv};
-    ghost use Rattle.td_value.specs.ValueOrder.{relation_order_total};
+    ghost use Rattle.td_value.specs.code.ValueOrder.{relation_order_total};
 
     ghost eq = { eq_by_cmp relation_cmp };
 
@@ -286,7 +286,7 @@ impl PartialEq for Rel {
 
 impl Eq for Rel {
     ghost use Rattle.std.proofs.lemmas.Cmp.{eq_by_cmp_equiv};
-    ghost use Rattle.td_value.specs.ValueOrder.{relation_order_total};
+    ghost use Rattle.td_value.specs.code.ValueOrder.{relation_order_total};
 
     ghost laws = { eq_by_cmp_equiv relation_order_total };
 }
@@ -295,7 +295,7 @@ impl PartialOrd for Rel {
     ghost use Rattle.std.specs.Prelude.{refl};
     ghost use Rattle.std.specs.Ordering.{as_partial_cmp};
     ghost use Rattle.std.specs.Cmp.{partial_order_from_agreeing_total};
-    ghost use Rattle.td_value.specs.ValueOrder.{relation_order_total};
+    ghost use Rattle.td_value.specs.code.ValueOrder.{relation_order_total};
 
     ghost partial_cmp = { as_partial_cmp relation_cmp };
 
@@ -309,7 +309,7 @@ impl PartialOrd for Rel {
 
 impl Ord for Rel {
     ghost use Rattle.std.specs.Prelude.{refl};
-    ghost use Rattle.td_value.specs.ValueOrder.{relation_order_total};
+    ghost use Rattle.td_value.specs.code.ValueOrder.{relation_order_total};
 
     ghost cmp = { relation_cmp };
 

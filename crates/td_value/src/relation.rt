@@ -2,12 +2,11 @@
 ghost use Rattle.std.specs.Prelude.{◌≡◌, ◌<◌, ◌≤◌, IfErr, IfOk, IsTrue, OnErr, OnOk, length};
 ghost use Rattle.std.specs.Prelude.{not};
 ghost use Rattle.std.specs.List.{All, insert, remove};
-ghost use Rattle.td_value.specs.Places.{IsPlaceFor, IsPlaceOf};
-ghost use Rattle.td_value.specs.Sets.{has, set_of};
-ghost use Rattle.td_value.specs.Values.{HaveSameMembers, HaveSameNames};
-ghost use Rattle.td_value.specs.Values.{IsAscendingBody, IsTupleOf, tuple_cmp};
-ghost use Rattle.td_value.specs.Values.{with_tuple, without_tuple};
-ghost use Rattle.td_value.specs.code.Views.{relation_view};
+ghost use Rattle.td_value.specs.code.Places.{IsPlaceFor, IsPlaceOf};
+ghost use Rattle.td_value.specs.model.Sets.{has, set_of};
+ghost use Rattle.td_value.specs.model.Values.{HaveSameMembers, HaveSameNames, IsAscendingBody};
+ghost use Rattle.td_value.specs.model.Values.{IsTupleOf, relation_view, tuple_cmp, with_tuple};
+ghost use Rattle.td_value.specs.model.Values.{without_tuple};
 
 use crate::lists::put;
 use crate::numbered::{are_worth_numbering, in_order_by_numbers};
@@ -30,14 +29,14 @@ pub struct Rel {
 
 impl Model for Rel {
     ghost use Rattle.td_value.specs.code.Depths.{relation_depth};
-    ghost use Rattle.td_value.specs.Values.{IsRelation, Relation};
+    ghost use Rattle.td_value.specs.model.Values.{IsRelation, Relation};
     ghost use Rattle.td_value.specs.code.ValueCode.{relation_code};
 
     ghost Value = { Relation };
 
     ghost coded = { relation_code };
 
-    ghost use Rattle.td_value.specs.code.Views.{relation_view};
+    ghost use Rattle.td_value.specs.model.Values.{relation_view};
 
     ghost view = { λ a. relation_view a.heading.value a.rows.value.items };
 
@@ -200,6 +199,29 @@ impl Rel {
         let heading = Rc::new(alloc, heading)?;
         let rows = Rc::new(alloc, rows)?;
         Ok(Rel { heading, rows })
+    }
+
+    /// The relation of the same heading of tuples that ascend already. Both share the heading.
+    pub fn with_body(&self, rows: Vec<Tuple>) -> Result<Rel, AllocError>
+        requires headed { All (IsTupleOf self.now.heading) rows.items }
+        requires ascending { IsAscendingBody rows.items }
+        ensures { IfOk result (λ r. r ≡ relation_view self.now.heading rows.items) }
+    {
+        let heading = self.heading.clone()?;
+        heading.reveal();
+        let rows = Rc::new(*rows.allocator(), rows)?;
+        Ok(Rel { heading, rows })
+    }
+
+    /// The relation of the same heading whose body is the set of the tuples. Both share the
+    /// heading.
+    pub fn with_set_of(&self, rows: Vec<Tuple>) -> Result<Rel, AllocError>
+        requires { All (IsTupleOf self.now.heading) rows.items }
+        ensures { IfOk result (λ r.
+            r ≡ relation_view self.now.heading (set_of tuple_cmp rows.items)) }
+    {
+        let rows = gathered(in_order(rows))?;
+        self.with_body(rows)
     }
 
     /// Whether the tuple is a member.

@@ -1,7 +1,7 @@
 //! Tuples that hold no more memory than they need.
 ghost use Rattle.std.specs.Prelude.{◌≡◌, ◌++◌, IfOk, OnOk};
 ghost use Rattle.std.specs.List.{All};
-ghost use Rattle.td_value.specs.Values.{HaveSameNames, tuple_names};
+ghost use Rattle.td_value.specs.model.Values.{HaveSameNames, tuple_names};
 ghost use Rattle.td_value.specs.code.Blocks.{making};
 
 use crate::names::NameList;

@@ -5,10 +5,10 @@ ghost use Rattle.std.specs.Ordering.{is_lt, nat_cmp};
 ghost use Rattle.std.specs.Cmp.Lexicographic.{slice_cmp};
 ghost use Rattle.std.specs.List.{All};
 ghost use Rattle.std.specs.List.Sorted.{IsSortedBy, IsStrictlySortedBy};
-ghost use Rattle.td_tree.specs.Outcomes.{Answers};
-ghost use Rattle.td_value.specs.Values.{AreFields, HasValuesOf, IsTuple, IsTupleOf, made_tuple};
-ghost use Rattle.td_value.specs.Values.{tuple_names};
-ghost use Rattle.td_value.specs.Values.{pack_fields, projected_tuple, value_at};
+ghost use Rattle.td_tree.specs.model.Outcomes.{Answers};
+ghost use Rattle.td_value.specs.model.Values.{AreFields, HasValuesOf, IsTuple, IsTupleOf};
+ghost use Rattle.td_value.specs.model.Values.{made_tuple, pack_fields, projected_tuple};
+ghost use Rattle.td_value.specs.model.Values.{tuple_names, value_at};
 ghost use Rattle.td_value.specs.code.Views.{tuple_view, values_of};
 
 use crate::lists::put;
@@ -44,7 +44,7 @@ pub struct Tuple {
 
 impl Model for Tuple {
     ghost use Rattle.td_value.specs.code.Depths.{tuple_depth};
-    ghost use Rattle.td_value.specs.Values.{Tuple};
+    ghost use Rattle.td_value.specs.model.Values.{Tuple};
     ghost use Rattle.td_value.specs.code.ValueCode.{tuple_code};
 
     ghost Value = { Tuple };
@@ -208,7 +208,7 @@ impl Tuple {
 }
 
 impl Tuple {
-    ghost use Rattle.td_value.specs.Values.{IsTuple, tuple_names};
+    ghost use Rattle.td_value.specs.model.Values.{IsTuple, tuple_names};
     ghost use Rattle.td_value.specs.code.Views.{values_of};
 
     /// How many attributes it has.

@@ -2,7 +2,7 @@
 ghost use Rattle.std.specs.Prelude.{◌≡◌, ◌<◌, ◌≤◌, ◌+◌, ◌∷◌, ◌++◌, [], IfOk, IsTrue, OnErr, OnOk};
 ghost use Rattle.std.specs.Prelude.{Some, length};
 ghost use Rattle.std.specs.List.{slice_get};
-ghost use Rattle.td_value.specs.Values.{AreValues, Tuple, pack_parts};
+ghost use Rattle.td_value.specs.model.Values.{AreValues, Tuple, pack_parts};
 ghost use Rattle.td_value.specs.code.Blocks.{AreAsDeep, AreWhole, IsRow, making, row_view, rows_of};
 ghost use Rattle.td_value.specs.code.Blocks.{with_row};
 ghost use Rattle.td_value.specs.code.Depths.{depth, parts_depth};
@@ -24,8 +24,8 @@ use td_tree::name::Name;
 pub struct Tuples {
     names: Rc<Vec<Name>>,
     width: usize,
-    count: usize,
-    cells: Vec<Value>,
+    pub(crate) count: usize,
+    pub(crate) cells: Vec<Value>,
 }
 
 impl Model for Tuples {
@@ -67,7 +67,7 @@ impl Value {
     }
 
     /// How deep a row nests by it, or 0 where that takes long to find: 1 where it holds no other
-    /// value, 3 where it is a user value of such components.
+    /// value, 3 where it is a user value of such components or a tuple of such values.
     fn level(&self) -> usize
         ensures { 0 < result → depth self.now + 1 ≡ result }
     {
@@ -75,8 +75,8 @@ impl Value {
             Node::Bool(_) => 1,
             Node::Int(_) => 1,
             Node::Text(_) => 1,
-            Node::User(u) => level_of_user(&u.components),
-            Node::Tup(_) => 0,
+            Node::User(u) => level_of_parts(&u.components),
+            Node::Tup(t) => level_of_parts(t.values()),
             Node::Rel(_) => 0,
         }
     }
@@ -94,11 +94,11 @@ fn are_flat(values: &[Value]) -> bool
     true
 }
 
-/// How deep a row nests by a user value of the components, or 0 where that takes long to find.
-fn level_of_user(components: &[Value]) -> usize
-    ensures { 0 < result → parts_depth (pack_parts components.now) + 2 ≡ result }
+/// How deep a row nests by a value that holds the values, or 0 where that takes long to find.
+fn level_of_parts(values: &[Value]) -> usize
+    ensures { 0 < result → parts_depth (pack_parts values.now) + 2 ≡ result }
 {
-    if !components.is_empty() && are_flat(components) {
+    if !values.is_empty() && are_flat(values) {
         3
     } else {
         0

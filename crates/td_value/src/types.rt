@@ -1,13 +1,12 @@
 //! The types of values.
 ghost use Rattle.std.specs.Prelude.{◌≡◌, ◌↔◌, IfOk, IsOk, IsTrue, OnOk, false, length};
 ghost use Rattle.std.specs.Ordering.{eq_by_cmp, is_eq};
-ghost use Rattle.td_types.specs.Headings.{has_attribute, with_attribute};
-ghost use Rattle.td_types.specs.TypeOrder.{heading_cmp};
-ghost use Rattle.td_types.specs.Types.{attrs_cmp, pack, type_cmp};
-ghost use Rattle.td_types.specs.Types as types;
+ghost use Rattle.td_types.specs.model.Headings.{has_attribute, with_attribute};
+ghost use Rattle.td_types.specs.model.Types.{attrs_cmp, heading_cmp, pack, type_cmp};
+ghost use Rattle.td_types.specs.model.Types as types;
 ghost use Rattle.td_types.specs.code.Views as heads;
-ghost use Rattle.td_value.specs.Values.{IsTuple, IsTupleOf, fields_type, heading_of, pack_fields};
-ghost use Rattle.td_value.specs.Values.{type_of};
+ghost use Rattle.td_value.specs.model.Values.{IsTuple, IsTupleOf, fields_type, heading_of};
+ghost use Rattle.td_value.specs.model.Values.{pack_fields, type_of};
 ghost use Rattle.td_value.specs.code.Views.{tuple_view};
 ghost use Rattle.td_value.specs.code.Zipped.{entries_fit};
 

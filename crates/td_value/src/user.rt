@@ -1,8 +1,7 @@
 //! User values.
 ghost use Rattle.std.specs.Prelude.{◌≡◌, ◌↔◌, IsTrue};
 ghost use Rattle.td_types.specs.code.Views.{pairs_view};
-ghost use Rattle.td_value.specs.Values.{AreValues, HaveTypesOf, pack_parts};
-ghost use Rattle.td_value.specs.code.Views.{user_view};
+ghost use Rattle.td_value.specs.model.Values.{AreValues, HaveTypesOf, pack_parts, user_view};
 
 use crate::value::Value;
 use std::marker::Model;
@@ -19,14 +18,14 @@ pub struct User {
 
 impl Model for User {
     ghost use Rattle.td_value.specs.code.Depths.{user_depth};
-    ghost use Rattle.td_value.specs.Values.{IsUserValue, UserValue};
+    ghost use Rattle.td_value.specs.model.Values.{IsUserValue, UserValue};
     ghost use Rattle.td_value.specs.code.ValueCode.{user_value_code};
 
     ghost Value = { UserValue };
 
     ghost coded = { user_value_code };
 
-    ghost use Rattle.td_value.specs.code.Views.{user_view};
+    ghost use Rattle.td_value.specs.model.Values.{user_view};
 
     ghost view = { λ a. user_view a.name a.components.items };
 
@@ -40,7 +39,7 @@ impl Model for User {
 }
 
 impl User {
-    ghost use Rattle.td_value.specs.Values.{IsUserValue};
+    ghost use Rattle.td_value.specs.model.Values.{IsUserValue};
 
     /// The user value of the type with that name.
     pub fn new(name: Name, components: Vec<Value>) -> User

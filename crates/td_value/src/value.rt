@@ -3,10 +3,10 @@ ghost use Rattle.std.specs.Prelude.{◌≡◌, ℤ, FitsSigned, IfOk};
 ghost use Rattle.std.specs.Int.{w64};
 ghost use Rattle.std.specs.Option.{SomeIff};
 ghost use Rattle.std.specs.Rc.{rc_str_bytes};
-ghost use Rattle.td_tree.specs.Outcomes.{Answers};
-ghost use Rattle.td_types.specs.Types.{pack};
-ghost use Rattle.td_value.specs.Values.{boolean, char, integer, of_number, pack_fields, pack_rows};
-ghost use Rattle.td_value.specs.Values.{relation, selected_value, tuple};
+ghost use Rattle.td_tree.specs.model.Outcomes.{Answers};
+ghost use Rattle.td_types.specs.model.Types.{pack};
+ghost use Rattle.td_value.specs.model.Values.{boolean, char, integer, of_number, pack_fields};
+ghost use Rattle.td_value.specs.model.Values.{pack_rows, relation, selected_value, tuple};
 
 use crate::relation::Rel;
 use crate::tuple::Tuple;
@@ -44,7 +44,7 @@ pub enum Node {
 
 impl Model for Value {
     ghost use Rattle.td_value.specs.code.Depths.{depth};
-    ghost use Rattle.td_value.specs.Values.{IsValue, Val};
+    ghost use Rattle.td_value.specs.model.Values.{IsValue, Val};
     ghost use Rattle.td_value.specs.code.ValueCode.{val_code};
 
     ghost Value = { Val };

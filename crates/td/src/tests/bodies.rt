@@ -1,9 +1,8 @@
 //! Bodies of relvars.
 ghost use Rattle.std.specs.Prelude.{◌≡◌, ◌∷◌, ◌<◌, IfOk, IfSome, IsTrue, [], length};
 ghost use Rattle.std.specs.List.{slice_get};
-ghost use Rattle.td_types.specs.Headings.{projection};
-ghost use Rattle.td_value.specs.Values.{IsTupleOf, heading_of};
-ghost use Rattle.td_value.specs.code.Views.{relation_view};
+ghost use Rattle.td_types.specs.model.Headings.{projection};
+ghost use Rattle.td_value.specs.model.Values.{IsTupleOf, heading_of, relation_view};
 
 mod outer;
 mod steps;

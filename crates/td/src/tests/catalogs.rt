@@ -1,6 +1,6 @@
 //! Catalogues: what is added, found, changed and dropped.
 ghost use Rattle.std.specs.Prelude.{◌≡◌, [], IfOk};
-ghost use Rattle.td_value.specs.code.Views.{relation_view};
+ghost use Rattle.td_value.specs.model.Values.{relation_view};
 
 mod changes;
 mod definitions;

@@ -1,7 +1,7 @@
 //! The operators of one relation.
 ghost use Rattle.std.specs.Prelude.{IsTrue, not};
-ghost use Rattle.td_algebra.specs.Columns.{IsColumn};
-ghost use Rattle.td_types.specs.Headings.{has_attribute};
+ghost use Rattle.td_algebra.specs.code.Columns.{IsColumn};
+ghost use Rattle.td_types.specs.model.Headings.{has_attribute};
 ghost use Rattle.td_types.specs.code.Views.{type_view};
 
 use super::given::{both, kept, list_of, made};

@@ -5,9 +5,9 @@ use Rattle.std.specs.Cmp.Lexicographic.{slice_cmp}
 use Rattle.std.specs.List.{All, slice_get}
 use Rattle.std.specs.List.Sorted.{IsStrictlySortedBy}
 use Rattle.std.specs.Ordering.{nat_cmp}
-use Rattle.td_types.specs.Headings.{has_attribute}
-use Rattle.td_types.specs.Types.{Heading}
-use Rattle.td_value.specs.Values.{Val, Tuple, boolean, tuple_of}
+use Rattle.td_types.specs.model.Headings.{has_attribute}
+use Rattle.td_types.specs.model.Types.{Heading}
+use Rattle.td_value.specs.model.Values.{Val, Tuple, boolean, tuple_of}
 use Rattle.td_value.specs.code.Blocks.{Making}
 
 -- names, each with the place of its value

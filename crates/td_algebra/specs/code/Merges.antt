@@ -1,8 +1,8 @@
 -- Two ascending lists of tuples side by side (this project's own).
 use Rattle.std.specs.Prelude.{◌≡◌, Bool, true, false, not, List, [], ◌∷◌, ◌++◌, if◌then◌else◌, IsTrue}
 use Rattle.std.specs.Ordering.{eq_by_cmp, is_lt}
-use Rattle.td_value.specs.Sets.{has}
-use Rattle.td_value.specs.Values.{Tuple, tuple_cmp}
+use Rattle.td_value.specs.model.Sets.{has}
+use Rattle.td_value.specs.model.Values.{Tuple, tuple_cmp}
 
 -- the first tuples, as long as they are below a tuple
 abbrev pub below : Tuple → List Tuple → List Tuple

@@ -1,12 +1,12 @@
 -- The tuples of pairs of tuples.
 use Rattle.std.specs.Prelude.{ℕ, not, List, ◌++◌, filter, map}
 use Rattle.std.specs.List.{flat_map}
-use Rattle.td_types.specs.Headings.{has_attribute, has_name}
-use Rattle.td_types.specs.Types.{Heading}
-use Rattle.td_value.specs.Values.{Relation, Tuple, tuple_names, tuple_of}
+use Rattle.td_types.specs.model.Headings.{has_attribute, has_name}
+use Rattle.td_types.specs.model.Types.{Heading}
+use Rattle.td_value.specs.model.Values.{Relation, Tuple, tuple_names, tuple_of}
 use Rattle.td_value.specs.code.Views.{values_of}
 use Rattle.td_algebra.specs.code.Layouts.{AreInRange, Sources, placed_tuple, sources_outside}
-use Rattle.td_algebra.specs.Operators.{are_partners}
+use Rattle.td_algebra.specs.model.Operators.{are_partners}
 
 -- where the values stand of a pair's tuple: those of the first but for what is left out, and those that it lacks of the second
 abbrev pub pair_sources : Heading → ℕ → Heading → ℕ → Heading → Sources

@@ -6,10 +6,10 @@ use Rattle.std.specs.List.{flat_map}
 use Rattle.std.proofs.Common.{ap}
 use Rattle.std.proofs.lemmas.Cmp.{eq_by_cmp_equiv, lists_equiv}
 use Rattle.std.proofs.lemmas.Slice.Eq.{slice_eq-Decides}
-use Rattle.td_value.specs.Hashes.{fed_value}
-use Rattle.td_value.specs.ValueOrder.{order_total, value_Decides}
-use Rattle.td_value.specs.Values.{Val}
-use Rattle.td_algebra.specs.Lookups.{are_same}
+use Rattle.td_value.specs.code.Hashes.{fed_value}
+use Rattle.td_value.specs.code.ValueOrder.{order_total, value_Decides}
+use Rattle.td_value.specs.model.Values.{Val}
+use Rattle.td_algebra.specs.code.Lookups.{are_same}
 
 -- what the hash of a list of values is fed: what the hash of each is fed
 abbrev pub fed_values : List Val → List (List ℕ)

@@ -1,6 +1,6 @@
 //! Which tuples a projection, a renaming, an extension and a setting of attributes have.
-ghost use Rattle.td_algebra.specs.Membership.{ExtensionByMembership, ProjectionByMembership};
-ghost use Rattle.td_algebra.specs.Membership.{RenamingByMembership, SettingByMembership};
+ghost use Rattle.td_algebra.specs.laws.Membership.{ExtensionByMembership, ProjectionByMembership};
+ghost use Rattle.td_algebra.specs.laws.Membership.{RenamingByMembership, SettingByMembership};
 
 /// Projection: some tuple of the operand agrees with it on the names.
 pub fn projection_by_membership()

@@ -1,10 +1,12 @@
 //! Equalities of union, intersection, difference and restriction: each side may be computed in
 //! place of the other.
-ghost use Rattle.td_algebra.specs.Equalities.{IntersectionIsAssociative, IntersectionIsCommutative};
-ghost use Rattle.td_algebra.specs.Equalities.{IntersectionIsIdempotent, RestrictionOfDifference};
-ghost use Rattle.td_algebra.specs.Equalities.{RestrictionOfIntersection, RestrictionOfUnion};
-ghost use Rattle.td_algebra.specs.Equalities.{UnionIsAssociative, UnionIsCommutative};
-ghost use Rattle.td_algebra.specs.Equalities.{UnionIsIdempotent};
+ghost use Rattle.td_algebra.specs.laws.Equalities.{IntersectionIsAssociative};
+ghost use Rattle.td_algebra.specs.laws.Equalities.{IntersectionIsCommutative};
+ghost use Rattle.td_algebra.specs.laws.Equalities.{IntersectionIsIdempotent};
+ghost use Rattle.td_algebra.specs.laws.Equalities.{RestrictionOfDifference};
+ghost use Rattle.td_algebra.specs.laws.Equalities.{RestrictionOfIntersection, RestrictionOfUnion};
+ghost use Rattle.td_algebra.specs.laws.Equalities.{UnionIsAssociative, UnionIsCommutative};
+ghost use Rattle.td_algebra.specs.laws.Equalities.{UnionIsIdempotent};
 
 /// UNION is commutative.
 pub fn union_is_commutative()

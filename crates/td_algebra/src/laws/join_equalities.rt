@@ -1,7 +1,8 @@
 //! Equalities of joins and their kin: each side may be computed in place of the other.
-ghost use Rattle.td_algebra.specs.Equalities.{DifferenceIsSemidifference, IntersectionIsJoin};
-ghost use Rattle.td_algebra.specs.Equalities.{JoinIsAssociative, JoinIsCommutative, ProductIsJoin};
-ghost use Rattle.td_algebra.specs.Equalities.{RestrictionOfJoin, SemijoinIsProjectedJoin};
+ghost use Rattle.td_algebra.specs.laws.Equalities.{DifferenceIsSemidifference, IntersectionIsJoin};
+ghost use Rattle.td_algebra.specs.laws.Equalities.{JoinIsAssociative, JoinIsCommutative};
+ghost use Rattle.td_algebra.specs.laws.Equalities.{ProductIsJoin, RestrictionOfJoin};
+ghost use Rattle.td_algebra.specs.laws.Equalities.{SemijoinIsProjectedJoin};
 
 /// JOIN: the operands may change places.
 pub fn join_is_commutative()

@@ -1,7 +1,7 @@
 //! Which tuples JOIN and its kin have.
-ghost use Rattle.td_algebra.specs.Membership.{CompositionByMembership, JoinByMembership};
-ghost use Rattle.td_algebra.specs.Membership.{ProductByMembership, SemidifferenceByMembership};
-ghost use Rattle.td_algebra.specs.Membership.{SemijoinByMembership};
+ghost use Rattle.td_algebra.specs.laws.Membership.{CompositionByMembership, JoinByMembership};
+ghost use Rattle.td_algebra.specs.laws.Membership.{ProductByMembership, SemidifferenceByMembership};
+ghost use Rattle.td_algebra.specs.laws.Membership.{SemijoinByMembership};
 
 /// JOIN: it is in the first on the first one's names, and in the second on the second one's.
 pub fn join_by_membership()

@@ -1,9 +1,9 @@
 //! Which tuples a restriction, a union, an intersection and a difference have, and what inclusion
 //! and disjointness are.
-ghost use Rattle.td_algebra.specs.Membership.{DifferenceByMembership, DisjointByMembership};
-ghost use Rattle.td_algebra.specs.Membership.{IntersectionByMembership};
-ghost use Rattle.td_algebra.specs.Membership.{RestrictionByMembership, SubsetByMembership};
-ghost use Rattle.td_algebra.specs.Membership.{UnionByMembership};
+ghost use Rattle.td_algebra.specs.laws.Membership.{DifferenceByMembership, DisjointByMembership};
+ghost use Rattle.td_algebra.specs.laws.Membership.{IntersectionByMembership};
+ghost use Rattle.td_algebra.specs.laws.Membership.{RestrictionByMembership, SubsetByMembership};
+ghost use Rattle.td_algebra.specs.laws.Membership.{UnionByMembership};
 
 /// WHERE: it is in the operand, and the predicate is TRUE in it.
 pub fn restriction_by_membership()

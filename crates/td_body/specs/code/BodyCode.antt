@@ -2,8 +2,8 @@
 use Rattle.std.specs.Prelude.{ℕ, List, refl}
 use Rattle.std.specs.Coded.{Coded, code_by, coded×, coded_list, coded_ℕ}
 use Rattle.td_value.specs.code.ValueCode.{relation_code}
-use Rattle.td_value.specs.Values.{Relation}
-use Rattle.td_body.specs.Bodies.{BodyView}
+use Rattle.td_value.specs.model.Values.{Relation}
+use Rattle.td_body.specs.model.Bodies.{BodyView}
 
 abbrev pub body_code : Coded BodyView
 body_code =

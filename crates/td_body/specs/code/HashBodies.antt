@@ -1,9 +1,9 @@
 -- A hashed body: its members, each earlier ones that a large change put aside, and what all of them keep (this project's own).
 use Rattle.std.specs.Prelude.{◌≡◌, ℕ, List, [], ◌∷◌, ◌++◌, length}
 use Rattle.std.specs.List.{All, flat_map}
-use Rattle.td_types.specs.Types.{attribute_names}
-use Rattle.td_value.specs.Values.{Relation}
-use Rattle.td_body.specs.Bodies.{HaveOneHeading}
+use Rattle.td_types.specs.model.Types.{attribute_names}
+use Rattle.td_value.specs.model.Values.{Relation}
+use Rattle.td_body.specs.model.Bodies.{HaveOneHeading}
 use Rattle.td_body.specs.code.Members.{ArePlaced, Members}
 
 -- what members kept and, last, what they held

@@ -2,9 +2,9 @@
 use Rattle.std.specs.Prelude.{ℕ, ◌++◌, List, [], ◌∷◌, Option, Some, None, filter, fold}
 use Rattle.std.specs.Hash.FoldHasher as folding
 use Rattle.std.specs.Ordering.{is_eq}
-use Rattle.td_value.specs.Hashes.{fed_value}
-use Rattle.td_value.specs.Values.{Tuple, Val}
-use Rattle.td_body.specs.code.KeyParts.{values_at, values_cmp}
+use Rattle.td_value.specs.code.Hashes.{fed_value}
+use Rattle.td_value.specs.model.Values.{Tuple, Val}
+use Rattle.td_body.specs.code.KeyParts.{tuple_values_at, values_cmp}
 
 -- what a hash is fed for a value, which may be missing
 abbrev pub fed_if_found : Option Val → List (List ℕ)
@@ -22,7 +22,7 @@ found_hash vs = folding.finish (fold folding.write folding.initial (fed_found vs
 
 -- the hash of a tuple's values at places
 abbrev pub part_hash : List ℕ → Tuple → ℕ
-part_hash places t = found_hash (values_at places t)
+part_hash places t = found_hash (tuple_values_at places t)
 
 -- the tuples whose values at the places are those of a part
 abbrev pub with_part : List ℕ → List Val → List Tuple → List Tuple

@@ -2,7 +2,7 @@
 use Rattle.std.specs.Prelude.{◌≡◌, ℕ, ◌<◌, List, Bool, true, false, map, slice_index_or, vec_capacity, vec_len}
 use Rattle.std.specs.Ordering.{is_eq}
 use Rattle.indexmap.specs.IndexMap.{spare}
-use Rattle.td_value.specs.Values.{Tuple}
+use Rattle.td_value.specs.model.Values.{Tuple}
 use Rattle.td_body.specs.code.Chains.{AreLinked}
 use Rattle.td_body.specs.code.Hashes.{part_hash}
 use Rattle.td_body.specs.code.KeyParts.{by_places}

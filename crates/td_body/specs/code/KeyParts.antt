@@ -5,8 +5,8 @@ use Rattle.std.specs.Option.{option_cmp}
 use Rattle.std.specs.Ordering.{is_eq}
 use Rattle.std.specs.declared.cmp.Ordering.{Ordering}
 use Rattle.std.specs.Cmp.Lexicographic.{slice_cmp}
-use Rattle.td_types.specs.Headings.{has_name}
-use Rattle.td_value.specs.Values.{Tuple, Val, value_cmp}
+use Rattle.td_types.specs.model.Headings.{has_name}
+use Rattle.td_value.specs.model.Values.{Tuple, Val, value_cmp}
 use Rattle.td_value.specs.code.Views.{values_of}
 
 -- the places, counted from i, of those of the names that are in the key
@@ -15,16 +15,16 @@ places_from i key [] = []
 places_from i key (n ∷ ns) = if has_name n key then i ∷ places_from (i + 1) key ns else places_from (i + 1) key ns
 
 -- a tuple's values at places
-abbrev pub values_at : List ℕ → Tuple → List (Option Val)
-values_at places t = map (slice_get (values_of t)) places
+abbrev pub tuple_values_at : List ℕ → Tuple → List (Option Val)
+tuple_values_at places t = map (slice_get (values_of t)) places
 
 -- the order of tuples by their values at places
 abbrev pub by_places : List ℕ → Tuple → Tuple → Ordering
-by_places places s t = slice_cmp (option_cmp value_cmp) (values_at places s) (values_at places t)
+by_places places s t = slice_cmp (option_cmp value_cmp) (tuple_values_at places s) (tuple_values_at places t)
 
 -- how a tuple's values at places stand to other values
 abbrev pub values_cmp : List ℕ → Tuple → List Val → Ordering
-values_cmp places t vs = slice_cmp (option_cmp value_cmp) (values_at places t) (map Some vs)
+values_cmp places t vs = slice_cmp (option_cmp value_cmp) (tuple_values_at places t) (map Some vs)
 
 -- whether no two of the tuples tie at the places
 abbrev pub apart_at : List ℕ → List Tuple → Bool

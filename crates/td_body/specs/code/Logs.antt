@@ -1,6 +1,6 @@
 -- What a log of steps keeps of tuples by number (this project's own).
 use Rattle.std.specs.Prelude.{ℕ, Bool, true, false, ◌&&◌, List, [], ◌∷◌, ◌++◌, fold, length, nat_eq, nat_lt, slice_set}
-use Rattle.td_value.specs.Values.{Tuple}
+use Rattle.td_value.specs.model.Values.{Tuple}
 use Rattle.td_body.specs.code.Numbered.{front, live, repeats, tuple_eq}
 use Rattle.td_body.specs.declared.hashed.step.Step.{Step}
 use Rattle.td_body.specs.declared.hashed.step.Step.TheVariants.{Kept, Added, Dropped}

@@ -2,8 +2,8 @@
 use Rattle.std.specs.Prelude.{◌≡◌, ℕ, ◌<◌, ◌≤◌, Bool, true, List, [], ◌∷◌, ◌++◌, filter, length, map, not, refl, Some}
 use Rattle.std.specs.Coded.{Coded, code_by, coded×, coded_list, coded_ℕ}
 use Rattle.std.specs.List.{All, slice_get}
-use Rattle.td_value.specs.Sets.{has, put_in, set_of}
-use Rattle.td_value.specs.Values.{Relation, Tuple, tuple_cmp}
+use Rattle.td_value.specs.model.Sets.{has, put_in, set_of}
+use Rattle.td_value.specs.model.Values.{Relation, Tuple, tuple_cmp}
 use Rattle.td_value.specs.code.ValueCode.{relation_code}
 use Rattle.td_body.specs.code.KeyIndexes.{IsIndex, agree_at}
 use Rattle.td_body.specs.code.KeyParts.{places_from}

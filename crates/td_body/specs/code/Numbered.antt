@@ -3,9 +3,9 @@ use Rattle.std.specs.Prelude.{ℕ, ◌+◌, Bool, cond, List, [], ◌∷◌, ref
 use Rattle.std.specs.Coded.{Coded, code_by, coded×, coded_bool, coded_list, coded_ℕ}
 use Rattle.std.specs.List.{list_any}
 use Rattle.std.specs.Ordering.{eq_by_cmp}
-use Rattle.td_types.specs.Types.{Heading}
+use Rattle.td_types.specs.model.Types.{Heading}
 use Rattle.td_types.specs.code.TypeCode.{heading_code}
-use Rattle.td_value.specs.Values.{Tuple, tuple_cmp}
+use Rattle.td_value.specs.model.Values.{Tuple, tuple_cmp}
 use Rattle.td_value.specs.code.ValueCode.{tuple_code}
 
 -- tuples of a heading by number, with the marks of those that are gone; the first `fixed` of them stay, and so many more can

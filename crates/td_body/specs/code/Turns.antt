@@ -1,6 +1,6 @@
 -- What a step makes of each index (this project's own).
 use Rattle.std.specs.Prelude.{◌≡◌, ℕ, ◌<◌, ◌≤◌, List, [], ◌∷◌, ◌++◌, Bool, false, length, slice_index_or, slice_set}
-use Rattle.td_value.specs.Values.{Tuple}
+use Rattle.td_value.specs.model.Values.{Tuple}
 use Rattle.td_body.specs.code.KeyIndexes.{IsIndex, IsLinked}
 use Rattle.td_body.specs.code.Numbered.{front}
 use Rattle.td_body.specs.declared.hashed.index.KeyIndex.{KeyIndex}

@@ -1,7 +1,7 @@
 //! Bodies whose members are hashed.
 ghost use Rattle.std.specs.Prelude.{◌≡◌, ◌∷◌, ◌++◌, [], ℕ, List, IfOk, OnErr, OnOk};
 ghost use Rattle.std.specs.List.{All};
-ghost use Rattle.td_body.specs.Bodies.{after_change};
+ghost use Rattle.td_body.specs.model.Bodies.{after_change};
 ghost use Rattle.td_body.specs.code.HashBodies.{IsPlacedFor, kept_with_aside};
 
 use super::members::Members;
@@ -28,7 +28,7 @@ pub struct HashBody {
 
 impl Model for HashBody {
     ghost use Rattle.std.specs.Prelude.{map};
-    ghost use Rattle.td_body.specs.Bodies.{BodyView};
+    ghost use Rattle.td_body.specs.model.Bodies.{BodyView};
     ghost use Rattle.td_body.specs.code.BodyCode.{body_code};
     ghost use Rattle.td_body.specs.code.HashBodies.{IsHashBody, kept_with_aside};
 

@@ -1,7 +1,7 @@
 //! The indexes of tuples by number, for each of a body's keys.
 ghost use Rattle.std.specs.Prelude.{◌≡◌, ◌<◌, IfOk, length, map};
 ghost use Rattle.std.specs.List.{All};
-ghost use Rattle.td_types.specs.Types.{attribute_names};
+ghost use Rattle.td_types.specs.model.Types.{attribute_names};
 ghost use Rattle.td_body.specs.code.KeyIndexes.{IsIndex};
 ghost use Rattle.td_body.specs.code.KeyParts.{places_from};
 ghost use Rattle.td_body.specs.code.Members.{ArePlaced, IsFresh, places_in};

@@ -1,16 +1,16 @@
 //! Tuples by number, found by their values for one key.
-ghost use Rattle.std.specs.Prelude.{◌≡◌, ◌∷◌, ◌++◌, [], ◌+◌, ◌<◌, ◌≤◌, ◌&&◌, ℕ, Bool, List, IfOk};
-ghost use Rattle.std.specs.Prelude.{IfSome, IsTrue, None, OnOk, false, length, map, not, take, true};
-ghost use Rattle.std.specs.Prelude.{if◌then◌else◌, slice_index_or, slice_set};
+ghost use Rattle.std.specs.Prelude.{if◌then◌else◌, ℕ, ◌&&◌, ◌++◌, ◌+◌, ◌<◌, ◌∷◌, ◌≡◌, ◌≤◌, Bool};
+ghost use Rattle.std.specs.Prelude.{IfOk, IfSome, IsTrue, List, None, OnOk, [], false, length, map};
+ghost use Rattle.std.specs.Prelude.{not, slice_index_or, slice_set, take, true};
 ghost use Rattle.std.specs.List.{list_any};
 ghost use Rattle.std.specs.Ordering.{is_eq};
-ghost use Rattle.td_value.specs.Sets.{has};
-ghost use Rattle.td_value.specs.Values.{HaveSameMembers, IsTupleOf, Tuple, tuple_cmp};
+ghost use Rattle.td_value.specs.model.Sets.{has};
+ghost use Rattle.td_value.specs.model.Values.{HaveSameMembers, IsTupleOf, Tuple, tuple_cmp};
 ghost use Rattle.td_body.specs.code.Chains.{AreChained, last_in, latest};
 ghost use Rattle.td_body.specs.code.Hashes.{part_hash, with_part};
 ghost use Rattle.td_body.specs.code.KeyIndexes.{AreGone, CanKeep, HasRoom, IsIndex, IsLinked};
 ghost use Rattle.td_body.specs.code.KeyIndexes.{agree_at, hashes_in};
-ghost use Rattle.td_body.specs.code.KeyParts.{values_at, values_cmp};
+ghost use Rattle.td_body.specs.code.KeyParts.{tuple_values_at, values_cmp};
 ghost use Rattle.td_body.specs.code.Numbered.{front, live};
 
 use super::chains::Chains;
@@ -84,8 +84,8 @@ fn is_agreed(
 
 /// Whether two lists of tuples have the same values at the places and the same marks, in turn.
 fn are_alike(places: &[usize], old: &Rows, rows: &Rows) -> bool
-    ensures values { IsTrue result → map (values_at places.now) rows.now.rows
-        ≡ map (values_at places.now) old.now.rows }
+    ensures values { IsTrue result → map (tuple_values_at places.now) rows.now.rows
+        ≡ map (tuple_values_at places.now) old.now.rows }
     ensures gone { IsTrue result → rows.now.gone ≡ old.now.gone }
 {
     let count = rows.count();
@@ -162,8 +162,8 @@ impl KeyIndex {
     fn like(&self, alloc: Global) -> Result<KeyIndex, AllocError>
         ensures index { IfOk result (λ x. (old rows : List Tuple) (old_gone gone : List Bool)
             → IsIndex old old_gone self.now
-            → map (values_at self.now.places.items) rows
-            ≡ map (values_at self.now.places.items) old
+            → map (tuple_values_at self.now.places.items) rows
+            ≡ map (tuple_values_at self.now.places.items) old
             → gone ≡ old_gone → IsIndex rows gone x) }
         ensures before { IfOk result (λ x. x.clashes.before.items ≡ []) }
         ensures places { IfOk result (λ x. x.places.items ≡ self.now.places.items) }

@@ -2,7 +2,7 @@
 ghost use Rattle.std.specs.Prelude.{◌≡◌, ◌∷◌, ◌++◌, [], ◌<◌, Bool, List, OnOk, false, length, true};
 ghost use Rattle.std.specs.Prelude.{slice_index_or, slice_set};
 ghost use Rattle.std.specs.List.{All};
-ghost use Rattle.td_value.specs.Values.{Tuple};
+ghost use Rattle.td_value.specs.model.Values.{Tuple};
 ghost use Rattle.td_body.specs.code.KeyIndexes.{CanKeep, HasRoom, IsIndex, IsLinked};
 ghost use Rattle.td_body.specs.code.Turns.{Becomes, Drops, EachTurned, Forgets, GoesBack, Keeps};
 ghost use Rattle.td_body.specs.code.Turns.{Links, Stays};

@@ -2,11 +2,11 @@
 ghost use Rattle.std.specs.Prelude.{◌≡◌, ◌∷◌, ◌++◌, [], ◌<◌, ◌↔◌, IfOk, IfSome, IsTrue, OnErr};
 ghost use Rattle.std.specs.Prelude.{OnOk, false, length, map, not};
 ghost use Rattle.std.specs.List.{All, slice_get};
-ghost use Rattle.td_types.specs.Types.{attribute_names};
-ghost use Rattle.td_value.specs.Sets.{has};
-ghost use Rattle.td_value.specs.Values.{HaveSameMembers, IsAscendingBody, IsRelation, IsTupleOf};
-ghost use Rattle.td_value.specs.Values.{tuple_cmp, with_tuple, without_tuple};
-ghost use Rattle.td_value.specs.code.Views.{relation_view};
+ghost use Rattle.td_types.specs.model.Types.{attribute_names};
+ghost use Rattle.td_value.specs.model.Sets.{has};
+ghost use Rattle.td_value.specs.model.Values.{HaveSameMembers, IsAscendingBody, IsRelation};
+ghost use Rattle.td_value.specs.model.Values.{IsTupleOf, relation_view, tuple_cmp, with_tuple};
+ghost use Rattle.td_value.specs.model.Values.{without_tuple};
 ghost use Rattle.td_body.specs.code.Hashes.{with_part};
 ghost use Rattle.td_body.specs.code.KeyIndexes.{IsIndex};
 ghost use Rattle.td_body.specs.code.KeyParts.{apart_at, places_from};
@@ -49,7 +49,7 @@ pub(crate) struct Members {
 
 impl Model for Members {
     ghost use Rattle.std.specs.Prelude.{map};
-    ghost use Rattle.td_value.specs.code.Views.{relation_view};
+    ghost use Rattle.td_value.specs.model.Values.{relation_view};
     ghost use Rattle.td_body.specs.code.Logs.{kept_by};
     ghost use Rattle.td_body.specs.code.Members.{AreMembers, Members, members_code, places_in};
     ghost use Rattle.td_body.specs.code.Members.{tuples_of};

@@ -1,10 +1,9 @@
 //! Tuples by number.
-ghost use Rattle.std.specs.Prelude.{◌≡◌, ◌∷◌, ◌++◌, [], ◌+◌, ◌<◌, ◌≤◌, ◌^◌, ℕ, ◌&&◌, Bool, IfOk, List};
-ghost use Rattle.std.specs.Prelude.{IfSome, IsTrue, OnOk, false, length, not, take, true};
-ghost use Rattle.std.specs.Prelude.{slice_index_or, slice_set};
+ghost use Rattle.std.specs.Prelude.{ℕ, ◌&&◌, ◌++◌, ◌+◌, ◌<◌, ◌^◌, ◌∷◌, ◌≡◌, ◌≤◌, Bool, IfOk};
+ghost use Rattle.std.specs.Prelude.{IfSome, IsTrue, List, OnOk, [], false, length, not};
+ghost use Rattle.std.specs.Prelude.{slice_index_or, slice_set, take, true};
 ghost use Rattle.std.specs.List.{All};
-ghost use Rattle.td_value.specs.Values.{IsTupleOf, Tuple};
-ghost use Rattle.td_value.specs.code.Views.{relation_view};
+ghost use Rattle.td_value.specs.model.Values.{IsTupleOf, Tuple, relation_view};
 ghost use Rattle.td_body.specs.code.Numbered.{front, live, tuple_eq};
 
 use super::chains::note;
@@ -26,7 +25,7 @@ pub(crate) struct Rows {
 impl Model for Rows {
     ghost use Rattle.std.specs.Prelude.{◌≡◌, ◌++◌, ◌-◌, length, min, vec_capacity, vec_len};
     ghost use Rattle.std.specs.List.{All};
-    ghost use Rattle.td_value.specs.Values.{IsTupleOf};
+    ghost use Rattle.td_value.specs.model.Values.{IsTupleOf};
     ghost use Rattle.td_body.specs.code.Numbered.{Numbered, numbered_code};
 
     ghost Value = { Numbered };

@@ -1,15 +1,15 @@
 -- What the code's catalogue stands for, and what it keeps beside bodies.
 use Rattle.std.specs.Prelude.{◌≡◌, ℕ, List, map}
 use Rattle.std.specs.List.{AllByRecursion}
-use Rattle.td_catalog.specs.Database.{BaseRelvar, Database, NamedConstraint, VirtualRelvar, base_relvar, named_constraint, virtual_relvar}
-use Rattle.td_catalog.specs.TypedDatabases.{IsTyped}
+use Rattle.td_catalog.specs.model.Database.{BaseRelvar, Database, NamedConstraint, VirtualRelvar, base_relvar, named_constraint, virtual_relvar}
+use Rattle.td_catalog.specs.model.TypedDatabases.{IsTyped}
 use Rattle.td_catalog.specs.declared.entry.BaseEntry.{BaseEntry}
 use Rattle.td_catalog.specs.declared.entry.ConstraintEntry.{ConstraintEntry}
 use Rattle.td_catalog.specs.declared.entry.VirtualEntry.{VirtualEntry}
 use Rattle.td_catalog.specs.declared.tables.Tables.{Tables}
-use Rattle.td_types.specs.TypeLists.{DeclaredType}
-use Rattle.td_types.specs.Types.{Heading}
-use Rattle.td_value.specs.Values.{Relation}
+use Rattle.td_types.specs.model.TypeLists.{DeclaredType}
+use Rattle.td_types.specs.model.Types.{Heading}
+use Rattle.td_value.specs.model.Values.{Relation}
 
 -- the names of each of an entry's keys
 abbrev pub entry_keys : {B : Type 0} → BaseEntry B → List (List (List ℕ))

@@ -1,16 +1,16 @@
 -- How the logic stores databases and catalogues: the codes that a Model asks for.
 use Rattle.std.specs.Prelude.{ℕ, List, refl}
 use Rattle.std.specs.Coded.{Coded, code_by, coded×, coded_list, coded_ℕ}
-use Rattle.td_catalog.specs.Database.{BaseRelvar, Database, NamedConstraint, VirtualRelvar, base_relvar, named_constraint, virtual_relvar}
-use Rattle.td_catalog.specs.KeptDatabases.{CatalogView}
+use Rattle.td_catalog.specs.model.Database.{BaseRelvar, Database, NamedConstraint, VirtualRelvar, base_relvar, named_constraint, virtual_relvar}
+use Rattle.td_catalog.specs.code.KeptDatabases.{CatalogView}
 use Rattle.td_tree.specs.code.TreeCode.{tree_code}
-use Rattle.td_tree.specs.Trees.{Tree}
+use Rattle.td_tree.specs.model.Trees.{Tree}
 use Rattle.td_types.specs.code.TypeCode.{heading_code}
 use Rattle.td_types.specs.code.TypeListCode.{declared_list_code}
-use Rattle.td_types.specs.TypeLists.{DeclaredType}
-use Rattle.td_types.specs.Types.{Heading}
+use Rattle.td_types.specs.model.TypeLists.{DeclaredType}
+use Rattle.td_types.specs.model.Types.{Heading}
 use Rattle.td_value.specs.code.ValueCode.{relation_code}
-use Rattle.td_value.specs.Values.{Relation}
+use Rattle.td_value.specs.model.Values.{Relation}
 
 abbrev pub keys_code : Coded (List (List (List ℕ)))
 keys_code = coded_list (coded_list (coded_list coded_ℕ))

@@ -4,17 +4,17 @@ use Rattle.std.specs.List.{AllByRecursion}
 use Rattle.indexmap.specs.IndexMap.{spare}
 use Rattle.indexmap.specs.IndexSet.{spare as names_spare}
 use Rattle.td_catalog.specs.code.CatalogViews.{IsBodyOf, IsCatalog, Rows, base_heading, base_view, constraint_view, database_view, known_of, known_rows, rows_of, virtual_heading, virtual_view}
-use Rattle.td_catalog.specs.Database.{BaseRelvar, Database, NamedConstraint, VirtualRelvar, base_relvar}
-use Rattle.td_catalog.specs.KeptDatabases.{CatalogView}
-use Rattle.td_catalog.specs.TypedDatabases.{IsTyped}
+use Rattle.td_catalog.specs.model.Database.{BaseRelvar, Database, NamedConstraint, VirtualRelvar, base_relvar}
+use Rattle.td_catalog.specs.code.KeptDatabases.{CatalogView}
+use Rattle.td_catalog.specs.model.TypedDatabases.{IsTyped}
 use Rattle.td_catalog.specs.declared.entry.BaseEntry.{BaseEntry}
 use Rattle.td_catalog.specs.declared.history.Step.{Step}
 use Rattle.td_catalog.specs.declared.history.Step.TheVariants.{TypeAdded, BaseAdded, VirtualAdded, ConstraintAdded, TypeDropped, BaseDropped, VirtualDropped, ConstraintDropped, BodyChanged}
 use Rattle.td_catalog.specs.declared.tables.Tables.{Tables}
-use Rattle.td_types.specs.NamedTypes.{without_declared}
-use Rattle.td_types.specs.TypeLists.{DeclaredType}
-use Rattle.td_types.specs.Types.{Heading, same_name}
-use Rattle.td_value.specs.Values.{Relation}
+use Rattle.td_types.specs.model.NamedTypes.{without_declared}
+use Rattle.td_types.specs.model.TypeLists.{DeclaredType}
+use Rattle.td_types.specs.model.Types.{Heading, same_name}
+use Rattle.td_value.specs.model.Values.{Relation}
 
 -- ---- tables as steps see them
 
@@ -25,19 +25,19 @@ pub record HeldBase : Type 0 where
   pub body_keys : List (List (List ℕ))
   pub kept : List Relation
 
-pub record Held : Type 0 where
+pub record HeldTables : Type 0 where
   pub types : List DeclaredType
   pub bases : List HeldBase
   pub virtuals : List VirtualRelvar
   pub constraints : List NamedConstraint
 
 -- the database of them
-abbrev pub database_of : Held → Database
+abbrev pub database_of : HeldTables → Database
 database_of held =
     record { types = held.types; bases = map (λ (b : HeldBase). b.base) held.bases; virtuals = held.virtuals; constraints = held.constraints }
 
 -- each entry is as its body, and the database is typed
-pub record IsStage (held : Held) : Type 0 where
+pub record IsStage (held : HeldTables) : Type 0 where
   pub entries : AllByRecursion (λ (b : HeldBase). IsBodyOf b.heading b.base.keys b.base.relation b.body_keys) held.bases
   pub is_typed : IsTyped (database_of held)
 
@@ -68,19 +68,19 @@ with_body_back name [] = []
 with_body_back name (b ∷ bs) = if same_name b.base.name name then went_back b ∷ bs else b ∷ with_body_back name bs
 
 -- tables with another list of one kind
-abbrev pub with_held_types : List DeclaredType → Held → Held
+abbrev pub with_held_types : List DeclaredType → HeldTables → HeldTables
 with_held_types types held =
     record { types = types; bases = held.bases; virtuals = held.virtuals; constraints = held.constraints }
 
-abbrev pub with_held_bases : List HeldBase → Held → Held
+abbrev pub with_held_bases : List HeldBase → HeldTables → HeldTables
 with_held_bases bases held =
     record { types = held.types; bases = bases; virtuals = held.virtuals; constraints = held.constraints }
 
-abbrev pub with_held_virtuals : List VirtualRelvar → Held → Held
+abbrev pub with_held_virtuals : List VirtualRelvar → HeldTables → HeldTables
 with_held_virtuals virtuals held =
     record { types = held.types; bases = held.bases; virtuals = virtuals; constraints = held.constraints }
 
-abbrev pub with_held_constraints : List NamedConstraint → Held → Held
+abbrev pub with_held_constraints : List NamedConstraint → HeldTables → HeldTables
 with_held_constraints constraints held =
     record { types = held.types; bases = held.bases; virtuals = held.virtuals; constraints = constraints }
 
@@ -91,7 +91,7 @@ module _ {B : Type 0} (relation : B → Relation) (keys : B → List (List (List
       record { base = base_view relation row; heading = row.1.heading; body_keys = keys row.1.body; kept = kept row.1.body }
 
   -- the rows of a catalogue as its steps see them
-  abbrev pub held_view : Rows B → Held
+  abbrev pub held_view : Rows B → HeldTables
   held_view rows =
       record {
         types = rows.types;
@@ -101,7 +101,7 @@ module _ {B : Type 0} (relation : B → Relation) (keys : B → List (List (List
       }
 
   -- the tables before a step: what was added is the last of its kind, what was dropped had that place
-  abbrev pub before : Step B → Held → Held
+  abbrev pub before : Step B → HeldTables → HeldTables
   before (TypeAdded name) held = with_held_types (without_declared name held.types) held
   before BaseAdded held = with_held_bases (without_last held.bases) held
   before VirtualAdded held = with_held_virtuals (without_last held.virtuals) held
@@ -114,11 +114,11 @@ module _ {B : Type 0} (relation : B → Relation) (keys : B → List (List (List
   before (BodyChanged name) held = with_held_bases (with_body_back name held.bases) held
 
   -- what is kept where one more step led to the tables: what was before those that came earlier, and what was before it
-  abbrev pub kept_with : (Held → List Held) → Step B → Held → List Held
+  abbrev pub kept_with : (HeldTables → List HeldTables) → Step B → HeldTables → List HeldTables
   kept_with earlier step held = earlier (before step held) ++ (before step held ∷ [])
 
   -- the tables before each of the steps that led to these
-  abbrev pub kept_before : List (Step B) → Held → List Held
+  abbrev pub kept_before : List (Step B) → HeldTables → List HeldTables
   kept_before steps = fold kept_with (λ _. []) steps
 
   -- how a catalogue of these rows is seen, with the steps that led to them

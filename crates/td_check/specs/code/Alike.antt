@@ -1,12 +1,12 @@
 -- Elements of a relation that are alike, and outcomes that are answered alike (this project's own).
 use Rattle.std.specs.Prelude.{◌≡◌, ⊤}
-use Rattle.td_check.specs.Mentions.{relvars_in_all, types_in_all}
-use Rattle.td_check.specs.OperatorTypes.{headed_type, listed_type}
-use Rattle.td_check.specs.Scopes.{Scope}
-use Rattle.td_check.specs.StaticTypes.{literal_type, types_of}
-use Rattle.td_tree.specs.Outcomes.{Outcome, Valued, Refused, least, with_both, with_value}
-use Rattle.td_tree.specs.Trees.{Literal, Tree, literal, tuple, Trees, none, more, NamedTrees, none_named, more_named}
-use Rattle.td_types.specs.Types.{Heading}
+use Rattle.td_check.specs.model.Mentions.{relvars_in_all, types_in_all}
+use Rattle.td_check.specs.model.OperatorTypes.{headed_type, listed_type}
+use Rattle.td_check.specs.model.Scopes.{Scope}
+use Rattle.td_check.specs.model.StaticTypes.{literal_type, types_of}
+use Rattle.td_tree.specs.model.Outcomes.{Outcome, Valued, Refused, least, with_both, with_value}
+use Rattle.td_tree.specs.model.Trees.{Literal, Tree, literal, tuple, Trees, none, more, NamedTrees, none_named, more_named}
+use Rattle.td_types.specs.model.Types.{Heading}
 
 -- both are literals, of one type
 abbrev pub AreLikeLiterals : Tree → Tree → Type 0

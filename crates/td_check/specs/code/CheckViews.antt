@@ -4,19 +4,19 @@ use Rattle.std.specs.Global.{Vec}
 use Rattle.td_check.specs.declared.mentioned.Mentions.{Mentions}
 use Rattle.td_check.specs.declared.rules.lists.Item.{Item}
 use Rattle.td_check.specs.code.ItemViews.{items_view}
-use Rattle.td_check.specs.OperatorTypes as own
+use Rattle.td_check.specs.model.OperatorTypes as own
 use Rattle.td_check.specs.code.PlaceViews.{is_bound, within_all}
-use Rattle.td_check.specs.Scopes.{Scope}
-use Rattle.td_check.specs.StaticTypes.{type_of}
+use Rattle.td_check.specs.model.Scopes.{Scope}
+use Rattle.td_check.specs.model.StaticTypes.{type_of}
 use Rattle.td_tree.specs.declared.expression.NamedExpr.{NamedExpr}
 use Rattle.td_tree.specs.declared.expression.Summary.{Summary}
 use Rattle.td_tree.specs.declared.expression.Summary.TheVariants as s
-use Rattle.td_tree.specs.Outcomes.{Outcome, Valued, with_value}
+use Rattle.td_tree.specs.model.Outcomes.{Outcome, Valued, with_value}
 use Rattle.td_tree.specs.code.TreeViews.{tree_view}
-use Rattle.td_tree.specs.Trees.{Attributes}
+use Rattle.td_tree.specs.model.Trees.{Attributes}
 use Rattle.td_types.specs.declared.ty.Ty.{Ty}
 use Rattle.td_types.specs.declared.ty.Ty.TheVariants.{Bool, Int, Text, User, Tup, Rel}
-use Rattle.td_types.specs.Types.{Type', Attribute, Heading}
+use Rattle.td_types.specs.model.Types.{Type', Attribute, Heading}
 use Rattle.td_types.specs.code.Views.{type_view}
 
 -- ---- what was mentioned so far

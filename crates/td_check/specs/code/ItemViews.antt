@@ -1,6 +1,6 @@
 -- What the items of SUMMARIZE that the code has stand for.
 use Rattle.std.specs.Prelude.{ℕ, List, map}
-use Rattle.td_check.specs.OperatorTypes as rules
+use Rattle.td_check.specs.model.OperatorTypes as rules
 use Rattle.td_check.specs.declared.rules.lists.Item.{Item}
 use Rattle.td_check.specs.declared.rules.lists.Item.TheVariants.{Count, Of}
 use Rattle.td_types.specs.code.Views.{type_view}

@@ -1,11 +1,11 @@
 -- The scope that a database's declarations make.
 use Rattle.std.specs.Prelude.{ℕ, List, [], ◌++◌, map, take}
-use Rattle.td_check.specs.Scopes.{KnownRelvar, Scope}
+use Rattle.td_check.specs.model.Scopes.{KnownRelvar, Scope}
 use Rattle.td_check.specs.declared.declared.Declared.{Declared}
 use Rattle.td_check.specs.declared.scope.Kind.{Kind}
 use Rattle.td_check.specs.declared.scope.Kind.TheVariants.{Base, Virtual}
-use Rattle.td_types.specs.TypeLists.{DeclaredType}
-use Rattle.td_types.specs.Types.{Heading}
+use Rattle.td_types.specs.model.TypeLists.{DeclaredType}
+use Rattle.td_types.specs.model.Types.{Heading}
 
 -- a relvar of a kind, of a name and a heading
 abbrev pub known_as : Kind → List ℕ × Heading → KnownRelvar

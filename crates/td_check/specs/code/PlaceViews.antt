@@ -2,9 +2,9 @@
 use Rattle.std.specs.Prelude.{ℕ, Bool, List, map, ◌++◌, reverse}
 use Rattle.std.specs.List.{list_any}
 use Rattle.td_check.specs.declared.place.Place.{Place}
-use Rattle.td_check.specs.Scopes.{Scope}
-use Rattle.td_types.specs.Headings.{has_attribute}
-use Rattle.td_types.specs.Types.{Heading}
+use Rattle.td_check.specs.model.Scopes.{Scope}
+use Rattle.td_types.specs.model.Headings.{has_attribute}
+use Rattle.td_types.specs.model.Types.{Heading}
 
 abbrev pub scope_at : Place → Scope
 scope_at p =

@@ -3,22 +3,22 @@ use Rattle.std.specs.Prelude.{◌≡◌, ℕ, Bool, true, false, List, [], Optio
 use Rattle.std.specs.Borrow.{Bor}
 use Rattle.std.specs.Coded.{Coded, code_by, coded×, coded_bool, coded_list, coded_ℕ}
 use Rattle.td_check.specs.code.LentScopes.{declared_relvars}
-use Rattle.td_check.specs.Scopes.{KnownRelvar, Scope}
+use Rattle.td_check.specs.model.Scopes.{KnownRelvar, Scope}
 use Rattle.td_check.specs.declared.declared.Declared.{Declared}
 use Rattle.td_check.specs.declared.scope.Kind.{Kind}
 use Rattle.td_check.specs.declared.scope.Kind.TheVariants.{Base, Virtual}
-use Rattle.td_check.specs.declared.scope.Known.{Known}
+use Rattle.td_check.specs.declared.scope.KindAndHeading.{KindAndHeading}
 use Rattle.td_types.specs.code.TypeCode.{heading_code}
 use Rattle.td_types.specs.code.TypeListCode.{declared_list_code}
-use Rattle.td_types.specs.TypeLists.{DeclaredType}
-use Rattle.td_types.specs.Types.{Heading}
+use Rattle.td_types.specs.model.TypeLists.{DeclaredType}
+use Rattle.td_types.specs.model.Types.{Heading}
 
 -- the relvar of a name and of what the code keeps beside it
-abbrev pub known_relvar_view : List ℕ × Known → KnownRelvar
+abbrev pub known_relvar_view : List ℕ × KindAndHeading → KnownRelvar
 known_relvar_view row = record { name = row.0; kind = row.1.kind; heading = row.1.heading }
 
 -- what the code keeps beside the name
-abbrev pub known_view : Known → Kind × Heading
+abbrev pub known_view : KindAndHeading → Kind × Heading
 known_view known = (known.kind, known.heading)
 
 -- what a look-up answers
@@ -34,7 +34,7 @@ abbrev pub lent_constraints : Option (Bor Declared × ℕ) → List (List ℕ)
 lent_constraints None = []
 lent_constraints (Some lent) = lent.0.now.constraints.keys
 
-abbrev pub relvars_view : List (List ℕ × Known) → List KnownRelvar
+abbrev pub relvars_view : List (List ℕ × KindAndHeading) → List KnownRelvar
 relvars_view = map known_relvar_view
 
 -- ---- code

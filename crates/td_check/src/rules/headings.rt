@@ -1,11 +1,11 @@
 //! Headings that the rules make: each refuses by the cause of headings, or wants memory.
-ghost use Rattle.td_check.specs.OperatorTypes.{attribute_type, composed_heading, extended_by};
-ghost use Rattle.td_check.specs.OperatorTypes.{joined_apart, named_part, set_heading};
-ghost use Rattle.td_tree.specs.Outcomes.{Answers};
+ghost use Rattle.td_check.specs.model.OperatorTypes.{attribute_type, composed_heading, extended_by};
+ghost use Rattle.td_check.specs.model.OperatorTypes.{joined_apart, named_part, set_heading};
+ghost use Rattle.td_tree.specs.model.Outcomes.{Answers};
 ghost use Rattle.td_tree.specs.code.TreeViews.{attributes_view};
 ghost use Rattle.td_types.specs.code.Views.{pairs_view, type_view};
 
-use crate::rules::asked::ask;
+use crate::rules::requirements::ask;
 use td_tree::cause::Cause;
 use td_tree::expression::Attributes;
 use td_tree::fault::Fault;

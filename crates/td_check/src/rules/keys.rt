@@ -1,8 +1,8 @@
 //! The keys with which a relvar may be declared.
 ghost use Rattle.std.specs.Prelude.{◌≡◌, ◌&&◌, ◌||◌, map, not};
 ghost use Rattle.std.specs.List.{list_all};
-ghost use Rattle.td_check.specs.StatementTypes.{is_included, keys_allowed, none_includes};
-ghost use Rattle.td_types.specs.Headings.{are_distinct, has_attributes};
+ghost use Rattle.td_check.specs.model.StatementTypes.{is_included, keys_allowed, none_includes};
+ghost use Rattle.td_types.specs.model.Headings.{are_distinct, has_attributes};
 
 use td_tree::name::Name;
 use td_types::heading::Heading;

@@ -2,18 +2,18 @@
 //! add.
 ghost use Rattle.std.specs.Prelude.{◌≡◌, map};
 ghost use Rattle.td_check.specs.code.ItemViews.{summary_item_view, items_view};
-ghost use Rattle.td_check.specs.OperatorTypes.{are_types_of, element_type, extension_type};
-ghost use Rattle.td_check.specs.OperatorTypes.{headed_type, item_type, listed_type};
-ghost use Rattle.td_check.specs.OperatorTypes.{per_heading, selector_type, setting_type};
-ghost use Rattle.td_check.specs.OperatorTypes.{summary_type, tuple_type};
-ghost use Rattle.td_tree.specs.Outcomes.{Answers, Outcome, gathered};
+ghost use Rattle.td_check.specs.model.OperatorTypes.{are_types_of, element_type, extension_type};
+ghost use Rattle.td_check.specs.model.OperatorTypes.{headed_type, item_type, listed_type};
+ghost use Rattle.td_check.specs.model.OperatorTypes.{per_heading, selector_type, setting_type};
+ghost use Rattle.td_check.specs.model.OperatorTypes.{summary_type, tuple_type};
+ghost use Rattle.td_tree.specs.model.Outcomes.{Answers, Outcome, gathered};
 ghost use Rattle.td_types.specs.code.Pairs.{pair_view};
-ghost use Rattle.td_types.specs.Types.{Heading};
+ghost use Rattle.td_types.specs.model.Types.{Heading};
 ghost use Rattle.td_types.specs.code.Views.{pairs_view, type_view};
 
-use crate::rules::asked::{relation_heading, tuple_heading};
 use crate::rules::headings::{extended_by, set_heading};
 use crate::rules::operand::aggregate_type;
+use crate::rules::requirements::{relation_heading, tuple_heading};
 use td_tree::cause::Cause;
 use td_tree::fault::Fault;
 use td_tree::gathering::{Gathering, both};

@@ -1,17 +1,17 @@
 //! The rules of operators with one operand.
 ghost use Rattle.std.specs.Prelude.{◌≡◌, ◌||◌, option_map};
 ghost use Rattle.std.specs.Rc.{rc_str_bytes};
-ghost use Rattle.td_check.specs.OperatorTypes.{aggregate_type, closure_type, component_type};
-ghost use Rattle.td_check.specs.OperatorTypes.{extracted_type, if_type, measure_type, prefix_type};
-ghost use Rattle.td_check.specs.OperatorTypes.{same_type};
-ghost use Rattle.td_check.specs.StaticTypes.{literal_type};
-ghost use Rattle.td_tree.specs.Outcomes.{Answers, value_if};
+ghost use Rattle.td_check.specs.model.OperatorTypes.{aggregate_type, closure_type, component_type};
+ghost use Rattle.td_check.specs.model.OperatorTypes.{extracted_type, if_type, measure_type};
+ghost use Rattle.td_check.specs.model.OperatorTypes.{prefix_type, same_type};
+ghost use Rattle.td_check.specs.model.StaticTypes.{literal_type};
+ghost use Rattle.td_tree.specs.model.Outcomes.{Answers, value_if};
 ghost use Rattle.td_tree.specs.code.TreeViews.{literal_view};
 ghost use Rattle.td_tree.specs.declared.cause.Cause.TheVariants as causes;
-ghost use Rattle.td_types.specs.Types.{char, integer, type_at, user};
+ghost use Rattle.td_types.specs.model.Types.{char, integer, type_at, user};
 ghost use Rattle.td_types.specs.code.Views.{pairs_view, type_view};
 
-use crate::rules::asked::{relation_heading, tuple_heading};
+use crate::rules::requirements::{relation_heading, tuple_heading};
 use std::alloc::Global;
 use std::rc::RcStr;
 use td_tree::cause::Cause;

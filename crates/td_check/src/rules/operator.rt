@@ -1,17 +1,17 @@
 //! The rules of operators between two operands.
-ghost use Rattle.td_check.specs.OperatorTypes.{both_of, choice_type, comparison_type};
-ghost use Rattle.td_check.specs.OperatorTypes.{composed_heading, equality_type};
-ghost use Rattle.td_check.specs.OperatorTypes.{first_where_agreed, joined_apart, restriction_type};
-ghost use Rattle.td_check.specs.OperatorTypes.{membership_type, of_one_heading, operator_type};
-ghost use Rattle.td_check.specs.OperatorTypes.{order_type, over_relation, over_relations};
-ghost use Rattle.td_check.specs.OperatorTypes.{relation_if};
-ghost use Rattle.td_tree.specs.Outcomes.{Answers, Valued};
-ghost use Rattle.td_types.specs.Headings.{united_heading};
-ghost use Rattle.td_types.specs.Types.{Heading};
+ghost use Rattle.td_check.specs.model.OperatorTypes.{both_of, choice_type, comparison_type};
+ghost use Rattle.td_check.specs.model.OperatorTypes.{composed_heading, equality_type};
+ghost use Rattle.td_check.specs.model.OperatorTypes.{first_where_agreed, joined_apart};
+ghost use Rattle.td_check.specs.model.OperatorTypes.{membership_type, of_one_heading};
+ghost use Rattle.td_check.specs.model.OperatorTypes.{operator_type, order_type, over_relation};
+ghost use Rattle.td_check.specs.model.OperatorTypes.{over_relations, relation_if, restriction_type};
+ghost use Rattle.td_tree.specs.model.Outcomes.{Answers, Valued};
+ghost use Rattle.td_types.specs.model.Headings.{united_heading};
+ghost use Rattle.td_types.specs.model.Types.{Heading};
 ghost use Rattle.td_types.specs.code.Views.{type_view};
 
-use crate::rules::asked::relation_heading;
 use crate::rules::headings::{composed_heading, joined_apart};
+use crate::rules::requirements::relation_heading;
 use td_tree::cause::Cause;
 use td_tree::fault::Fault;
 use td_tree::operator::{Comparison, Operator};

@@ -1,17 +1,17 @@
 //! The types that operators behind their operands give.
 ghost use Rattle.std.specs.Prelude.{◌≡◌, IfOk, map};
-ghost use Rattle.td_check.specs.OperatorTypes.{attribute_type, joined_apart, named_part};
-ghost use Rattle.td_check.specs.OperatorTypes.{over_relation, over_tuple, postfix_type};
-ghost use Rattle.td_check.specs.OperatorTypes.{relation_if, renaming_pairs};
-ghost use Rattle.td_tree.specs.Outcomes.{Answers, with_value};
+ghost use Rattle.td_check.specs.model.OperatorTypes.{attribute_type, joined_apart, named_part};
+ghost use Rattle.td_check.specs.model.OperatorTypes.{over_relation, over_tuple, postfix_type};
+ghost use Rattle.td_check.specs.model.OperatorTypes.{relation_if, renaming_pairs};
+ghost use Rattle.td_tree.specs.model.Outcomes.{Answers, with_value};
 ghost use Rattle.td_tree.specs.code.TreeViews.{attributes_view, postfix_view, renaming_view};
-ghost use Rattle.td_types.specs.Headings.{extended_heading, outside, renamed_heading};
-ghost use Rattle.td_types.specs.Headings.{without_attribute};
-ghost use Rattle.td_types.specs.Types.{pack, relation, tuple};
+ghost use Rattle.td_types.specs.model.Headings.{extended_heading, outside, renamed_heading};
+ghost use Rattle.td_types.specs.model.Headings.{without_attribute};
+ghost use Rattle.td_types.specs.model.Types.{pack, relation, tuple};
 ghost use Rattle.td_types.specs.code.Views.{type_view};
 
-use crate::rules::asked::{relation_heading, tuple_heading};
 use crate::rules::headings::{attribute_type, joined_apart, named_part};
+use crate::rules::requirements::{relation_heading, tuple_heading};
 use std::alloc::{AllocError, Global};
 use td_tree::expression::{Attributes, Postfix, Renaming};
 use td_tree::fault::Fault;

@@ -1,24 +1,24 @@
 //! What is required of definitions.
 ghost use Rattle.std.specs.Prelude.{◌≡◌, List, map, not, option_map};
-ghost use Rattle.td_check.specs.OperatorTypes.{over_relation};
-ghost use Rattle.td_check.specs.StaticTypes.{type_of};
-ghost use Rattle.td_check.specs.StatementTypes.{both_hold, components_meant, constraint_fits};
-ghost use Rattle.td_check.specs.StatementTypes.{has_key, heading_rank_fits, holds_or, init_fits};
-ghost use Rattle.td_check.specs.StatementTypes.{keys_asked, knows_relvar, rank_fits};
-ghost use Rattle.td_check.specs.StatementTypes.{statement_checked, type_if_given};
-ghost use Rattle.td_tree.specs.Outcomes.{Answers, with_both, with_value};
+ghost use Rattle.td_check.specs.model.OperatorTypes.{over_relation};
+ghost use Rattle.td_check.specs.model.StaticTypes.{type_of};
+ghost use Rattle.td_check.specs.model.StatementTypes.{both_hold, components_meant, constraint_fits};
+ghost use Rattle.td_check.specs.model.StatementTypes.{has_key, heading_rank_fits, holds_or};
+ghost use Rattle.td_check.specs.model.StatementTypes.{init_fits, keys_asked, knows_relvar};
+ghost use Rattle.td_check.specs.model.StatementTypes.{rank_fits, statement_checked, type_if_given};
+ghost use Rattle.td_tree.specs.model.Outcomes.{Answers, with_both, with_value};
 ghost use Rattle.td_tree.specs.code.TreeViews.{heading_tree_view, statement_view, tree_view};
 ghost use Rattle.td_tree.specs.declared.cause.Cause.TheVariants as causes;
-ghost use Rattle.td_types.specs.Headings.{heading_from};
-ghost use Rattle.td_types.specs.TypeLists.{heading_meant};
-ghost use Rattle.td_types.specs.Types.{Attribute};
+ghost use Rattle.td_types.specs.model.Headings.{heading_from};
+ghost use Rattle.td_types.specs.model.TypeLists.{heading_meant};
+ghost use Rattle.td_types.specs.model.Types.{Attribute};
 ghost use Rattle.td_types.specs.code.Views.{pairs_view, type_view};
 
 use super::parts::{both_hold, check_condition, check_inside, relation_fits, type_if_given};
 use crate::expression::check_at;
 use crate::place::Place;
-use crate::rules::asked::ask;
 use crate::rules::keys::keys_allowed;
+use crate::rules::requirements::ask;
 use crate::scope::Scope;
 use td_tree::cause::Cause;
 use td_tree::expression::Expr;

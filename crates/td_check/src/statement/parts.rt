@@ -1,19 +1,19 @@
 //! What is required of the parts of statements.
 ghost use Rattle.std.specs.Prelude.{option_map, ⊤};
-ghost use Rattle.td_check.specs.OperatorTypes.{if_type};
+ghost use Rattle.td_check.specs.model.OperatorTypes.{if_type};
 ghost use Rattle.td_check.specs.code.PlaceViews.{scope_at};
-ghost use Rattle.td_check.specs.Scopes.{entered_with};
-ghost use Rattle.td_check.specs.StaticTypes.{type_of};
-ghost use Rattle.td_check.specs.StatementTypes.{both_hold, condition_fits};
-ghost use Rattle.td_check.specs.StatementTypes.{relation_fits, type_if_given};
-ghost use Rattle.td_tree.specs.Outcomes.{Answers, Outcome, with_value};
+ghost use Rattle.td_check.specs.model.Scopes.{entered_with};
+ghost use Rattle.td_check.specs.model.StaticTypes.{type_of};
+ghost use Rattle.td_check.specs.model.StatementTypes.{both_hold, condition_fits};
+ghost use Rattle.td_check.specs.model.StatementTypes.{relation_fits, type_if_given};
+ghost use Rattle.td_tree.specs.model.Outcomes.{Answers, Outcome, with_value};
 ghost use Rattle.td_tree.specs.code.TreeViews.{tree_view};
-ghost use Rattle.td_types.specs.Types.{boolean};
+ghost use Rattle.td_types.specs.model.Types.{boolean};
 ghost use Rattle.td_types.specs.code.Views.{type_view};
 
 use crate::expression::check_at;
 use crate::place::Place;
-use crate::rules::asked::{ask, relation_heading};
+use crate::rules::requirements::{ask, relation_heading};
 use crate::scope::Scope;
 use td_tree::cause::Cause;
 use td_tree::expression::Expr;

@@ -3,17 +3,17 @@ use Rattle.std.proofs.Common.{◌≡◌, ℕ, ◌+◌, ◌&&◌, Bool, true, fal
 use Rattle.std.specs.Prelude.{option_map}
 use Rattle.std.proofs.KnownBytes.{Appends-nil}
 use Rattle.td_engine.proofs.code_lemmas.Turning.{left_more, turned_fewer, turned_refused}
-use Rattle.td_engine.specs.Machine.{progress_at_first, nothing}
-use Rattle.td_engine.specs.Scripts.{AreEnded, AreLeft}
-use Rattle.td_engine.specs.Standing.{IsLeft, Run, Standing}
-use Rattle.td_engine.specs.code.Turns.{Advanced, HasTurned, IsFed, Place, Reached, place_at}
+use Rattle.td_engine.specs.model.Machine.{progress_at_first, nothing}
+use Rattle.td_engine.specs.model.Scripts.{AreEnded, AreLeft}
+use Rattle.td_engine.specs.model.Standing.{IsLeft, Run, Standing}
+use Rattle.td_engine.specs.code.Turns.{Advanced, HasTurned, IsFed, RunPlace, Reached, place_at}
 use Rattle.td_engine.specs.declared.run.Report.{Report}
 use Rattle.td_scan.proofs.TakenLaws.{end_stays, first_and_after, first_and_later, unended_statement}
 use Rattle.td_tree.proofs.law_lemmas.EndLaws.{up_to_cases}
 use Rattle.td_tree.proofs.law_lemmas.DivisionLaws.{up_to-ends}
 use Rattle.td_tree.proofs.law_lemmas.StatementLaws.{left}
-use Rattle.td_tree.specs.Division.{up_to}
-use Rattle.td_tree.specs.Statements.{Held, IsEnded, PlacedToken, after, statement_or_rest, ends, first_statement, statements, tokens}
+use Rattle.td_tree.specs.model.Division.{up_to}
+use Rattle.td_tree.specs.model.Statements.{Held, IsEnded, PlacedToken, after, statement_or_rest, ends, first_statement, statements, tokens}
 
 -- ---- statements that a `;` ends
 
@@ -79,7 +79,7 @@ next_of given done held x rest false is cut none first =
     cut ∙ ap (λ t. done ++ t) (first_and_later held x first is rest)
     ∙ sym (append_assoc done (x ∷ []) (statements (after held).offset ((after held).bytes ++ rest)))
 
-reached_more : (stop : Bool) (before : Standing) (given : List ℕ) (old new : Place) → (stop && nat_lt 0 old.report.refused) ≡ false → HasTurned old new
+reached_more : (stop : Bool) (before : Standing) (given : List ℕ) (old new : RunPlace) → (stop && nat_lt 0 old.report.refused) ≡ false → HasTurned old new
     → Reached stop before given old → Reached stop before given new
 reached_more stop before given old new goes t r =
     let x : List PlacedToken = t.first.statement in
@@ -97,7 +97,7 @@ reached_more stop before given old new goes t r =
           ended_more r.done x (r.ended open_yet) (first_ended old.held x t.first.is open_yet);
     }
 
-pub stays : (stop : Bool) (place : Place) → Advanced stop place place
+pub stays : (stop : Bool) (place : RunPlace) → Advanced stop place place
 stays stop place = record {
   finished_is = refl;
   end_is = refl;
@@ -106,7 +106,7 @@ stays stop place = record {
   reached = λ before given r. r;
 }
 
-pub advances : (stop : Bool) (from old new : Place) → Advanced stop from old → (stop && nat_lt 0 old.report.refused) ≡ false → HasTurned old new → Advanced stop from new
+pub advances : (stop : Bool) (from old new : RunPlace) → Advanced stop from old → (stop && nat_lt 0 old.report.refused) ≡ false → HasTurned old new → Advanced stop from new
 advances stop from old new a goes t = record {
   finished_is = ap (λ (h : Held). h.finished) t.held_is ∙ a.finished_is;
   end_is = ap (λ (h : Held). h.offset + length h.bytes) t.held_is ∙ end_stays old.held ∙ a.end_is;
@@ -133,7 +133,7 @@ reached_first stop before = record {
 }
 
 -- a piece more was given and fed
-pub reached_fed : (stop : Bool) (before : Standing) (given : List ℕ) (old new : Place) (from to : Option (List ℕ)) (count : ℕ)
+pub reached_fed : (stop : Bool) (before : Standing) (given : List ℕ) (old new : RunPlace) (from to : Option (List ℕ)) (count : ℕ)
     → old.held.finished ≡ false → Reached stop before given old → (f : IsFed old.held new.held from to count) → new.standing ≡ old.standing → new.report ≡ old.report
     → Reached stop before (given ++ f.piece) new
 reached_fed stop before given old new from to count more r f same counts = record {

@@ -1,19 +1,19 @@
 -- Plans of constraints that are kept: of none, with one more, and where base relvars hold other relations.
 use Rattle.std.proofs.Common.{◌≡◌, ◌∙◌, ◌∷◌, ◌++◌, ◌<◌, ◌⊎◌, inl, inr, ℕ, zero, suc, List, [], Option, Some, None, ap, arith, length, map, refl, slice_set, subst, sym}
 use Rattle.std.specs.List.{AllByRecursion, slice_get}
-use Rattle.td_catalog.specs.Database.{BaseRelvar, Database, NamedConstraint, base_named, constraint_names, database_scope, known_base, known_virtual}
-use Rattle.td_check.specs.Scopes.{KnownRelvar, Scope}
+use Rattle.td_catalog.specs.model.Database.{BaseRelvar, Database, NamedConstraint, base_named, constraint_names, database_scope, known_base, known_virtual}
+use Rattle.td_check.specs.model.Scopes.{KnownRelvar, Scope}
 use Rattle.td_check.specs.declared.scope.Kind.TheVariants as kinds
-use Rattle.td_engine.proofs.law_lemmas.Gifted.{gift_heading, given_none, given_some}
-use Rattle.td_engine.proofs.law_lemmas.OrderedGifts.{each_found}
-use Rattle.td_engine.specs.Assignments.{Given, given_to, with_gift, with_gifts}
+use Rattle.td_engine.proofs.law_lemmas.AssignedBases.{assigned_heading, given_none, given_some}
+use Rattle.td_engine.proofs.law_lemmas.OrderedAssigned.{each_found}
+use Rattle.td_engine.specs.model.Assignments.{Given, given_to, with_assigned, with_all_assigned}
 use Rattle.td_engine.specs.code.ConstraintPlans.{AreKeptPlans, IsPlanIn}
-use Rattle.td_engine.specs.code.Gifts.{AreGifts}
-use Rattle.td_engine.specs.Legality.{IsLegal}
+use Rattle.td_engine.specs.code.AssignedRelations.{AreAssigned}
+use Rattle.td_engine.specs.model.Legality.{IsLegal}
 use Rattle.td_plan.specs.code.PlanViews.{PlanValue, plan_view}
-use Rattle.td_plan.specs.PlansOf.{IsPlanIfTyped}
-use Rattle.td_types.specs.Types.{Heading}
-use Rattle.td_value.specs.Values.{Relation}
+use Rattle.td_plan.specs.code.PlansOf.{IsPlanIfTyped}
+use Rattle.td_types.specs.model.Types.{Heading}
+use Rattle.td_value.specs.model.Values.{Relation}
 
 -- ---- places
 
@@ -59,37 +59,37 @@ plan_more db plans k made stands kept =
 
 -- ---- other relations
 
-module _ (db : Database) (given : Given) (legal : IsLegal db) (gifts : AreGifts db given) where
+module _ (db : Database) (given : Given) (legal : IsLegal db) (all_assigned : AreAssigned db given) where
   abbrev with_heading : List ℕ → Heading → KnownRelvar
   with_heading n h = record { name = n; kind = kinds.Base; heading = h }
 
-  known_so : (b : BaseRelvar) → base_named b.name db ≡ Some b → known_base (with_gift given b) ≡ known_base b
-  known_so b found = by_gift (given_to b.name given) refl
+  known_so : (b : BaseRelvar) → base_named b.name db ≡ Some b → known_base (with_assigned given b) ≡ known_base b
+  known_so b found = by_assigned (given_to b.name given) refl
     where
-      by_gift : (o : Option Relation) → given_to b.name given ≡ o → known_base (with_gift given b) ≡ known_base b
-      by_gift None k = ap known_base (given_none given b k)
-      by_gift (Some q) k = ap known_base (given_some given b q k) ∙ ap (with_heading b.name) (gift_heading db given b.name q b gifts k found)
+      by_assigned : (o : Option Relation) → given_to b.name given ≡ o → known_base (with_assigned given b) ≡ known_base b
+      by_assigned None k = ap known_base (given_none given b k)
+      by_assigned (Some q) k = ap known_base (given_some given b q k) ∙ ap (with_heading b.name) (assigned_heading db given b.name q b all_assigned k found)
 
   all_known : (bs : List BaseRelvar) → AllByRecursion (λ (b : BaseRelvar). base_named b.name db ≡ Some b) bs
-      → map known_base (map (with_gift given) bs) ≡ map known_base bs
+      → map known_base (map (with_assigned given) bs) ≡ map known_base bs
   all_known [] found = refl
-  all_known (b ∷ bs) found = ap (λ r. r ∷ map known_base (map (with_gift given) bs)) (known_so b found.0) ∙ ap (λ rs. known_base b ∷ rs) (all_known bs found.1)
+  all_known (b ∷ bs) found = ap (λ r. r ∷ map known_base (map (with_assigned given) bs)) (known_so b found.0) ∙ ap (λ rs. known_base b ∷ rs) (all_known bs found.1)
 
   -- the same is known where targets hold what they were given
-  scope_stays : database_scope (with_gifts given db) ≡ database_scope db
+  pub scope_stays : database_scope (with_all_assigned given db) ≡ database_scope db
   scope_stays =
       let with_known : List KnownRelvar → Scope =
       λ rs. record { types = db.types; relvars = rs ++ map known_virtual db.virtuals; constraints = constraint_names db; entered = [] } in
       ap with_known (all_known db.bases (each_found db given legal.typed))
 
-  pub kept_after : (plans : List (Option PlanValue)) → AreKeptPlans db plans → AreKeptPlans (with_gifts given db) plans
+  pub kept_after : (plans : List (Option PlanValue)) → AreKeptPlans db plans → AreKeptPlans (with_all_assigned given db) plans
   kept_after plans kept =
       record {
         each = λ place plan c at there.
             record { stands = subst (λ s. IsPlanIfTyped s (plan_view plan) c.tree) (sym scope_stays) (kept.each place plan c at there).stands };
       }
 
-  pub kept_before : (plans : List (Option PlanValue)) → AreKeptPlans (with_gifts given db) plans → AreKeptPlans db plans
+  pub kept_before : (plans : List (Option PlanValue)) → AreKeptPlans (with_all_assigned given db) plans → AreKeptPlans db plans
   kept_before plans kept =
       record {
         each = λ place plan c at there.

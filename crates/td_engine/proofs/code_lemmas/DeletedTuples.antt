@@ -3,26 +3,25 @@ use Rattle.std.proofs.Common.{◌≡◌, ◌∙◌, ◌∷◌, ℕ, Bool, true, 
 use Rattle.std.specs.Cmp.Lexicographic.{same_text}
 use Rattle.std.specs.List.{AllByRecursion}
 use Rattle.std.specs.Prelude.{if◌then◌else◌, map, not}
-use Rattle.td_algebra.specs.Operators.{difference, restriction}
+use Rattle.td_algebra.specs.model.Operators.{difference, restriction}
 use Rattle.td_algebra.proofs.Relations.{IsRelation-restriction}
 use Rattle.td_body.proofs.Differences.{replaced}
-use Rattle.td_body.specs.Bodies.{after_change}
-use Rattle.td_catalog.specs.Database.{BaseRelvar, Database, base_named}
+use Rattle.td_body.specs.model.Bodies.{after_change}
+use Rattle.td_catalog.specs.model.Database.{BaseRelvar, Database, base_named}
 use Rattle.td_engine.proofs.code_lemmas.LeftTuples.{agreed, nothing_in, without_chosen}
 use Rattle.td_engine.proofs.law_lemmas.Sources.{restricted_is, truths_negated}
-use Rattle.td_engine.specs.Assignments.{assignment_value, chosen_for, source_world}
-use Rattle.td_engine.specs.code.Gifts.{restricted_relation}
+use Rattle.td_engine.specs.model.Assignments.{assignment_value, chosen_for, source_world}
+use Rattle.td_engine.specs.code.AssignedRelations.{restricted_relation}
 use Rattle.td_eval.proofs.code_lemmas.WorldParts.{base_value}
-use Rattle.td_eval.specs.DatabaseWorlds.{world_of}
-use Rattle.td_eval.specs.OperatorValues.{is_true, prefix_value, truth_value}
-use Rattle.td_eval.specs.TreeValues.{value_of}
-use Rattle.td_tree.specs.Outcomes.{Outcome, Valued, Refused, gathered, with_value}
-use Rattle.td_tree.specs.Trees.{Tree, delete, parentheses, prefix}
+use Rattle.td_eval.specs.model.DatabaseWorlds.{world_of}
+use Rattle.td_eval.specs.model.OperatorValues.{is_true, prefix_value, truth_value}
+use Rattle.td_eval.specs.model.TreeValues.{value_of}
+use Rattle.td_tree.specs.model.Outcomes.{Outcome, Valued, Refused, gathered, with_value}
+use Rattle.td_tree.specs.model.Trees.{Tree, delete, parentheses, prefix}
 use Rattle.td_tree.specs.declared.operator.Prefix.TheVariants as prefixes
 use Rattle.td_types.proofs.OutcomeLaws.{values_of_both}
-use Rattle.td_types.specs.Types.{same_name}
-use Rattle.td_value.specs.Values.{Val, boolean, integer, char, relation_value, user, tuple, relation, IsRelation, Relation, Tuple}
-use Rattle.td_value.specs.code.Views.{relation_view}
+use Rattle.td_types.specs.model.Types.{same_name}
+use Rattle.td_value.specs.model.Values.{Val, boolean, integer, char, relation_value, user, tuple, relation, IsRelation, Relation, Tuple, relation_view}
 
 -- where a target holds what it held, its name means what it means anyway
 pub same_world : (db : Database) (n : List ℕ) (b : BaseRelvar) → base_named n db ≡ Some b → source_world db n b.relation ≡ world_of db

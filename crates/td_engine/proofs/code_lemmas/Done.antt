@@ -1,14 +1,14 @@
 -- What a call that changes the catalogue in place has done, where it answers so.
 use Rattle.std.proofs.Common.{◌≡◌, ◌∙◌, Bool, Some, Option, Result, Ok, Err, ap, not, subst, sym}
 use Rattle.std.specs.Prelude.{IfSome, IsTrue, OnErr, OnOk, ⊤}
-use Rattle.td_catalog.specs.Database.{Database}
-use Rattle.td_catalog.specs.KeptDatabases.{CatalogView, advanced_view}
-use Rattle.td_check.specs.StatementTypes.{holds_or}
+use Rattle.td_catalog.specs.model.Database.{Database}
+use Rattle.td_catalog.specs.code.KeptDatabases.{CatalogView, advanced_view}
+use Rattle.td_check.specs.model.StatementTypes.{holds_or}
 use Rattle.td_engine.proofs.law_lemmas.Admitted.{is_held, only_memory, refused_on}
 use Rattle.td_engine.proofs.code_lemmas.StageLaws.{goes_on, stays}
-use Rattle.td_engine.specs.Checks.{BasesHold}
+use Rattle.td_engine.specs.model.Checks.{BasesHold}
 use Rattle.td_engine.specs.code.Stages.{GoesOn}
-use Rattle.td_tree.specs.Outcomes.{Answers, Outcome, Valued, with_value}
+use Rattle.td_tree.specs.model.Outcomes.{Answers, Outcome, Valued, with_value}
 use Rattle.td_tree.specs.declared.cause.Cause.TheVariants as causes
 use Rattle.td_tree.specs.declared.fault.Fault.{Fault}
 

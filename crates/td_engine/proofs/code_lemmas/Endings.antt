@@ -8,16 +8,16 @@ use Rattle.td_engine.proofs.code_lemmas.Advances.{ended_more, first_ended, none_
 use Rattle.td_engine.proofs.law_lemmas.Runs.{runs_append, runs_stopped}
 use Rattle.td_engine.proofs.code_lemmas.ToldLaws.{told_after}
 use Rattle.td_engine.proofs.code_lemmas.Turning.{goes_on, runs_more}
-use Rattle.td_engine.specs.Faults.{IfNotMemory, IfRead, IfReadLimit, IfWrite}
-use Rattle.td_engine.specs.Machine.{Progress, Runs, State, Step, and_then, progress_at_first, has_stopped, nothing}
-use Rattle.td_engine.specs.Scripts.{AreEnded, Continued, AreLeft, OfBroken, OfFront, OfScript, OfTooMuch}
-use Rattle.td_engine.specs.Standing.{HasRun, HasRunCut, IsLeft, IsOngoing, Run, RunsTo, Standing, Stands, run_of}
-use Rattle.td_engine.specs.Told.{AppendsIfTold, ConsumesIfTold, GaveAtMost, KeepsIfTold}
-use Rattle.td_engine.specs.code.Turns.{EndedAt, EndedIn, HasTurnedCut, IsFed, Place, Reached, Advanced, place_at}
+use Rattle.td_engine.specs.model.Faults.{IfNotMemory, IfRead, IfReadLimit, IfWrite}
+use Rattle.td_engine.specs.model.Machine.{Progress, Runs, State, Step, and_then, progress_at_first, has_stopped, nothing}
+use Rattle.td_engine.specs.model.Scripts.{AreEnded, Continued, AreLeft, OfBroken, OfFront, OfScript, OfTooMuch}
+use Rattle.td_engine.specs.model.Standing.{HasRun, HasRunCut, IsLeft, IsOngoing, Run, RunsTo, Standing, Stands, run_of}
+use Rattle.td_engine.specs.model.Told.{AppendsIfTold, ConsumesIfTold, GaveAtMost, KeepsIfTold}
+use Rattle.td_engine.specs.code.Turns.{EndedAt, EndedIn, HasTurnedCut, IsFed, RunPlace, Reached, Advanced, place_at}
 use Rattle.td_engine.specs.declared.run.RunFault.{RunFault}
 use Rattle.td_engine.specs.declared.run.RunFault.TheVariants as faults
 use Rattle.td_scan.proofs.TakenLaws.{first_and_after, first_and_later, no_statement}
-use Rattle.td_tree.specs.Statements.{Held, PlacedToken, after, first_statement, statements}
+use Rattle.td_tree.specs.model.Statements.{Held, PlacedToken, after, first_statement, statements}
 
 -- ---- the statements that were run are the first
 
@@ -32,7 +32,7 @@ others_of all done others count h e = rw (h, ← e) (drop_seam done others)
     drop_seam [] ys = refl
     drop_seam (x ∷ xs) ys = drop_seam xs ys
 
-module _ (stop : Bool) (before : Standing) (given : List ℕ) (place : Place) (r : Reached stop before given place) where
+module _ (stop : Bool) (before : Standing) (given : List ℕ) (place : RunPlace) (r : Reached stop before given place) where
   -- with nothing behind them the statements of what was given
   cut_now : statements 0 given ≡ r.done ++ statements place.held.offset place.held.bytes
   cut_now =
@@ -98,7 +98,7 @@ next_in given done held x rest true is cut none first =
     ∙ ap (λ t. x ∷ t) (sym (ap (λ r. statements (after held).offset ((after held).bytes ++ r)) (none refl) ∙ ap (statements (after held).offset) (append-nil (after held).bytes))))
 next_in given done held x rest false is cut none first = cut ∙ ap (λ t. done ++ t) (first_and_later held x first is rest)
 
-module _ (stop : Bool) (before : Standing) (given : List ℕ) (place : Place) (r : Reached stop before given place) (new : Standing) (count : ℕ)
+module _ (stop : Bool) (before : Standing) (given : List ℕ) (place : RunPlace) (r : Reached stop before given place) (new : Standing) (count : ℕ)
     (is : count ≡ place.report.statements + 1) (goes : (stop && nat_lt 0 place.report.refused) ≡ false) (t : HasTurnedCut place new) where
   abbrev x : List PlacedToken
   x = t.first.statement
@@ -147,7 +147,7 @@ module _ (stop : Bool) (before : Standing) (given : List ℕ) (place : Place) (r
 -- ---- between two pieces
 
 -- what was given so far, of which so many bytes may be more, and where the run is
-pub record Streamed (limit room : ℕ) (stop : Bool) (before : Standing) (from to : Option (List ℕ)) (place : Place) : Type 0 where
+pub record Streamed (limit room : ℕ) (stop : Bool) (before : Standing) (from to : Option (List ℕ)) (place : RunPlace) : Type 0 where
   pub given : List ℕ
   pub moved : Consumes from to given
   pub size : length given + room ≡ limit
@@ -168,7 +168,7 @@ streamed_first limit stop before from = record {
   refused = omega arith;
 }
 
-pub streamed_fed : (limit room : ℕ) (stop : Bool) (before : Standing) (from mid to : Option (List ℕ)) (old new : Place) (count left : ℕ)
+pub streamed_fed : (limit room : ℕ) (stop : Bool) (before : Standing) (from mid to : Option (List ℕ)) (old new : RunPlace) (count left : ℕ)
     → Streamed limit room stop before from mid old → old.held.finished ≡ false → IsFed old.held new.held mid to count → count ≤ room → left ≡ room - count
     → new.standing ≡ old.standing → new.report ≡ old.report → Streamed limit left stop before from to new
 streamed_fed limit room stop before from mid to old new count left s more f fits is same counts =
@@ -187,7 +187,7 @@ streamed_fed limit room stop before from mid to old new count left s more f fits
       refused = omega (arith, statements_are, refused_are, s.refused);
     }
 
-pub streamed_on : (limit room : ℕ) (stop : Bool) (before : Standing) (from to : Option (List ℕ)) (old new : Place)
+pub streamed_on : (limit room : ℕ) (stop : Bool) (before : Standing) (from to : Option (List ℕ)) (old new : RunPlace)
     → Streamed limit room stop before from to old → Advanced stop old new → Streamed limit room stop before from to new
 streamed_on limit room stop before from to old new s a = record {
   given = s.given;
@@ -201,7 +201,7 @@ streamed_on limit room stop before from to old new s a = record {
 
 -- ---- endings
 
-continued : (stop : Bool) (before : Standing) (given : List ℕ) (place : Place) → Reached stop before given place → (count : ℕ) (new : Standing)
+continued : (stop : Bool) (before : Standing) (given : List ℕ) (place : RunPlace) → Reached stop before given place → (count : ℕ) (new : Standing)
     → count ≡ place.report.statements → new ≡ place.standing → Continued place.held.finished given (λ script. HasRun (run_of stop before script) count new)
 continued stop before given place r count new is same = λ rest may. has_run stop before given place r count new rest is same may
 
@@ -211,7 +211,7 @@ kept_told (Some xs) None to given c k = absurd c
 kept_told (Some xs) (Some ys) None given c k = (ys, c)
 kept_told (Some xs) (Some ys) (Some zs) given c k = c ∙ ap (λ t. given ++ t) (sym k)
 
-module _ (limit room : ℕ) (stop : Bool) (before : Standing) (from mid to : Option (List ℕ)) (place : Place) (s : Streamed limit room stop before from mid place)
+module _ (limit room : ℕ) (stop : Bool) (before : Standing) (from mid to : Option (List ℕ)) (place : RunPlace) (s : Streamed limit room stop before from mid place)
     (more : place.held.finished ≡ false) (count : ℕ) (new : Standing) (is : count ≡ place.report.statements) (same : new ≡ place.standing) where
   ongoing : (stop && nat_lt 0 place.report.refused) ≡ false → (script : List ℕ) → (has : HasRun (run_of stop before script) count new)
       → has.progress ≡ s.reached.left.progress → IsOngoing (run_of stop before script) count new
@@ -256,7 +256,7 @@ module _ (limit room : ℕ) (stop : Bool) (before : Standing) (from mid to : Opt
     omega (arith, length-append s.given piece, s.size, much),
   )
 
-module _ (limit room : ℕ) (stop : Bool) (before : Standing) (from to : Option (List ℕ)) (place : Place) (s : Streamed limit room stop before from to place)
+module _ (limit room : ℕ) (stop : Bool) (before : Standing) (from to : Option (List ℕ)) (place : RunPlace) (s : Streamed limit room stop before from to place)
     (at_end : place.held.finished ≡ true → IsAtEnd to) where
   -- the statements held were run up to a place
   pub at_memory : (count : ℕ) (new : Standing) → EndedAt stop place count new → OfFront count from to (λ script. HasRun (run_of stop before script) count new)
@@ -336,7 +336,7 @@ too_many limit (Some xs) None front c much gave = gave
 too_many limit (Some xs) (Some ys) front c much gave = omega (arith, gave, much, ap length c, length-append front ys)
 
 -- a piece fails only for memory, where the source is whole and gave no more than the limit
-pub piece_headline : (T : Type 0) (limit room : ℕ) (stop : Bool) (before : Standing) (from mid to : Option (List ℕ)) (place : Place)
+pub piece_headline : (T : Type 0) (limit room : ℕ) (stop : Bool) (before : Standing) (from mid to : Option (List ℕ)) (place : RunPlace)
     → Streamed limit room stop before from mid place → (done : ℕ) (reader writer : Bool) (Q : Type 0) (fault : RunFault)
     → IfRead (λ n. (n ≡ done) × IsTrue reader × KeepsIfTold mid to) fault
     → IfReadLimit (λ n. (n ≡ done) × ((piece : List ℕ) × Consumes mid to piece × (room < length piece))) fault

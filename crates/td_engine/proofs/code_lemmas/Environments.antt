@@ -1,20 +1,20 @@
 -- What is evaluated in an environment of a database, where no tuple is in hand.
 use Rattle.std.proofs.Common.{◌≡◌, [], refl, subst, sym}
 use Rattle.std.specs.Prelude.{Result}
-use Rattle.td_catalog.specs.Database.{Database, database_scope}
-use Rattle.td_check.specs.StaticTypes.{type_of}
+use Rattle.td_catalog.specs.model.Database.{Database, database_scope}
+use Rattle.td_check.specs.model.StaticTypes.{type_of}
 use Rattle.td_engine.specs.code.Targets.{IsEnvOf}
-use Rattle.td_eval.specs.code.Sights.{tuples_in_hand, world_in}
+use Rattle.td_eval.specs.code.LentWorlds.{tuples_in_hand, world_in}
 use Rattle.td_eval.specs.declared.env.Env.{Env}
-use Rattle.td_eval.specs.TreeValues.{value_of}
-use Rattle.td_eval.specs.UnfailingValues.{GivesValues}
-use Rattle.td_eval.specs.Worlds.{World}
-use Rattle.td_plan.specs.PlansOf.{MeetsRules, scope_in}
+use Rattle.td_eval.specs.model.TreeValues.{value_of}
+use Rattle.td_eval.specs.laws.UnfailingValues.{GivesValues}
+use Rattle.td_eval.specs.model.Worlds.{World}
+use Rattle.td_plan.specs.code.PlansOf.{MeetsRules, scope_in}
 use Rattle.td_tree.specs.declared.fault.Fault.{Fault}
-use Rattle.td_tree.specs.Outcomes.{Answers, Valued}
-use Rattle.td_tree.specs.Trees.{Tree}
-use Rattle.td_types.specs.Types.{Type'}
-use Rattle.td_value.specs.Values.{Val}
+use Rattle.td_tree.specs.model.Outcomes.{Answers, Valued}
+use Rattle.td_tree.specs.model.Trees.{Tree}
+use Rattle.td_types.specs.model.Types.{Type'}
+use Rattle.td_value.specs.model.Values.{Val}
 
 module _ {B : Type 0} (db : Database) (w : World) (env : Env B) (is : IsEnvOf db w env) (gives : GivesValues w (database_scope db)) where
   module _ (e : Tree) (typed : (t : Type') × (type_of (database_scope db) e ≡ Valued t)) where

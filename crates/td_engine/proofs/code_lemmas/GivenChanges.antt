@@ -6,20 +6,20 @@ use Rattle.std.specs.Map.{lookup}
 use Rattle.std.specs.Map.Iter.{deref_pair}
 use Rattle.std.specs.Prelude.{IfSome, if◌then◌else◌, option_map, slice_get}
 use Rattle.indexmap.specs.IndexMap.{insert_entry}
-use Rattle.td_algebra.specs.Operators.{difference, union}
-use Rattle.td_catalog.specs.Database.{BaseRelvar, Database, base_named}
-use Rattle.td_catalog.specs.TypedDatabases.{AreTyped}
-use Rattle.td_engine.proofs.law_lemmas.Gifted.{some_is}
-use Rattle.td_engine.specs.Assignments.{given_to, with_given}
-use Rattle.td_engine.specs.Changes.{AreChanges, AreTypedChanges, IsChangeOf, IsTypedChange, changed_by, given_as, given_in}
-use Rattle.td_engine.specs.code.Gifts.{AreGifts, IsGift}
+use Rattle.td_algebra.specs.model.Operators.{difference, union}
+use Rattle.td_catalog.specs.model.Database.{BaseRelvar, Database, base_named}
+use Rattle.td_catalog.specs.model.TypedDatabases.{AreTyped}
+use Rattle.td_engine.proofs.law_lemmas.AssignedBases.{some_is}
+use Rattle.td_engine.specs.model.Assignments.{given_to, with_given}
+use Rattle.td_engine.specs.code.Changes.{AreChanges, AreTypedChanges, IsChangeOf, IsTypedChange, changed_by, given_as, given_in}
+use Rattle.td_engine.specs.code.AssignedRelations.{AreAssigned, IsAssigned}
 use Rattle.td_engine.specs.declared.change.Change.{Change}
 use Rattle.td_eval.proofs.code_lemmas.KeepsGathered.{has_type_members}
-use Rattle.td_types.specs.TypeLists.{DeclaredType}
-use Rattle.td_types.specs.Types.{Heading, pack, same_name}
+use Rattle.td_types.specs.model.TypeLists.{DeclaredType}
+use Rattle.td_types.specs.model.Types.{Heading, pack, same_name}
 use Rattle.td_value.proofs.Members.{joined_members}
-use Rattle.td_value.specs.KnownValues.{HasHeading}
-use Rattle.td_value.specs.Values.{Relation, pack_fields}
+use Rattle.td_value.specs.model.KnownValues.{HasHeading}
+use Rattle.td_value.specs.model.Values.{Relation, pack_fields}
 
 -- ---- entries by name
 
@@ -91,15 +91,15 @@ module _ (db : Database) where
       (has_type_members ds add.body (pack add.heading)).1
       (λ t c. subst (λ (h : Heading). HasHeading ds (pack_fields t) (pack h)) (sym e) (all t ((joined_members q.body add.body t).1 (inr c))))
 
-  one_typed : (e : List ℕ × Change) → IsChangeOf db e → IsGift db (e.0, given_as db e.0 e.1) → IsTypedChange db e
-  one_typed e is gift =
+  one_typed : (e : List ℕ × Change) → IsChangeOf db e → IsAssigned db (e.0, given_as db e.0 e.1) → IsTypedChange db e
+  one_typed e is assigned =
       let r = is.target.relation in
-      let typed : AreTyped db.types (changed_by e.1 r) = subst (AreTyped db.types) (given_of e.0 e.1 is.target is.named) gift.typed in
+      let typed : AreTyped db.types (changed_by e.1 r) = subst (AreTyped db.types) (given_of e.0 e.1 is.target is.named) assigned.typed in
       record { is = is; typed = added_typed db.types (difference r e.1.out) e.1.add is.headings.1 typed }
 
-  pub all_typed : (es : List (List ℕ × Change)) → AreChanges db es → AreGifts db (given_in db es) → AreTypedChanges db es
-  all_typed [] all gifts = tt
-  all_typed (e ∷ es) all gifts = (one_typed e all.0 gifts.0, all_typed es all.1 gifts.1)
+  pub all_typed : (es : List (List ℕ × Change)) → AreChanges db es → AreAssigned db (given_in db es) → AreTypedChanges db es
+  all_typed [] all all_assigned = tt
+  all_typed (e ∷ es) all all_assigned = (one_typed e all.0 all_assigned.0, all_typed es all.1 all_assigned.1)
 
 -- it is one of another database of the same types that is the same there
 pub still_change : (db other : Database) (n : List ℕ) (c : Change) (r : BaseRelvar) → other.types ≡ db.types → base_named n db ≡ Some r → base_named n other ≡ Some r

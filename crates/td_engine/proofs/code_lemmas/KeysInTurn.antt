@@ -4,10 +4,10 @@ use Rattle.std.proofs.lemmas.List.{drop_all}
 use Rattle.std.proofs.lemmas.Option.{slice_get-get_or}
 use Rattle.std.specs.Prelude.{◌&&◌, IfSome}
 use Rattle.std.specs.List.{slice_get}
-use Rattle.td_body.specs.Bodies.{key_holds}
+use Rattle.td_body.specs.model.Bodies.{key_holds}
 use Rattle.td_engine.proofs.law_lemmas.InOrder.{drop_next}
-use Rattle.td_engine.specs.Checks.{keys_hold}
-use Rattle.td_value.specs.Values.{Tuple}
+use Rattle.td_engine.specs.model.Checks.{keys_hold}
+use Rattle.td_value.specs.model.Values.{Tuple}
 
 module _ (keys : List (List (List ℕ))) (tuples : List Tuple) where
   -- those before a place hold

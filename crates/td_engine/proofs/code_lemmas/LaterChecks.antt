@@ -4,20 +4,20 @@ use Rattle.std.proofs.Common.{◌≡◌, ◌∙◌, ◌∷◌, ◌++◌, List, [
 use Rattle.std.specs.Prelude.{IsTrue}
 use Rattle.std.specs.List.{AllByRecursion}
 use Rattle.std.specs.Option.{option_or}
-use Rattle.td_catalog.specs.Database.{BaseRelvar, Database, NamedConstraint, VirtualRelvar, database_scope, knows_relvar, with_base, with_constraint, with_declared, with_virtual}
+use Rattle.td_catalog.specs.model.Database.{BaseRelvar, Database, NamedConstraint, VirtualRelvar, database_scope, knows_relvar, with_base, with_constraint, with_declared, with_virtual}
 use Rattle.td_engine.proofs.law_lemmas.EachOf.{all_given}
 use Rattle.td_engine.proofs.law_lemmas.RebuiltChecks.{none_refuses}
 use Rattle.td_engine.proofs.law_lemmas.SameTests.{IsKnown, all_known, name_checked, same_test, same_truth}
 use Rattle.td_engine.proofs.law_lemmas.TestsAfterDrops.{IsAsked, all_asked, tree_checked}
-use Rattle.td_engine.specs.Checks.{constraint_check, derived_check, first_refusal, refusal_unless_passed, virtual_check}
-use Rattle.td_engine.specs.Legality.{HasKeysThatHold, IsLegal, IsTrueOf}
-use Rattle.td_engine.specs.Refusals.{Refusal, by_constraint, by_key}
+use Rattle.td_engine.specs.model.Checks.{constraint_check, derived_check, first_refusal, refusal_unless_passed, virtual_check}
+use Rattle.td_engine.specs.model.Legality.{HasKeysThatHold, IsLegal, IsTrueOf}
+use Rattle.td_engine.specs.model.Refusals.{Refusal, by_constraint, by_key}
 use Rattle.td_eval.proofs.law_lemmas.LaterEntries.{later_entries_change_nothing}
-use Rattle.td_eval.specs.DatabaseWorlds.{world_of}
-use Rattle.td_eval.specs.TreeValues.{value_of}
-use Rattle.td_eval.specs.ValueLaws.{HasLater, IsChecked}
-use Rattle.td_tree.specs.Trees.{Tree, name}
-use Rattle.td_types.specs.TypeLists.{DeclaredType}
+use Rattle.td_eval.specs.model.DatabaseWorlds.{world_of}
+use Rattle.td_eval.specs.model.TreeValues.{value_of}
+use Rattle.td_eval.specs.laws.ValueLaws.{HasLater, IsChecked}
+use Rattle.td_tree.specs.model.Trees.{Tree, name}
+use Rattle.td_types.specs.model.TypeLists.{DeclaredType}
 
 -- behind those of which none refuses the last decides
 last_decides : {A : Type 0} (check : A → Option Refusal) (xs : List A) (x : A) → first_refusal check xs ≡ None

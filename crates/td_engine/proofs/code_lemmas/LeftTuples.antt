@@ -5,15 +5,14 @@ use Rattle.std.specs.List.{AllByRecursion}
 use Rattle.td_algebra.proofs.Lists.{contains_filter}
 use Rattle.td_algebra.proofs.Members.{absent, lacked}
 use Rattle.td_algebra.proofs.Relations.{IsRelation-restriction, rows_ascend}
-use Rattle.td_algebra.specs.Membership.{IsIn}
-use Rattle.td_algebra.specs.Operators.{difference, restriction, union}
-use Rattle.td_types.specs.Types.{Heading}
+use Rattle.td_algebra.specs.laws.Membership.{IsIn}
+use Rattle.td_algebra.specs.model.Operators.{difference, restriction, union}
+use Rattle.td_types.specs.model.Types.{Heading}
 use Rattle.td_value.proofs.Members.{by_members}
 use Rattle.td_value.proofs.SetLaws.{is_set_of}
-use Rattle.td_value.specs.Sets.{has}
-use Rattle.td_value.specs.Values.{IsRelation, Relation, Tuple, tuple_cmp}
-use Rattle.td_value.specs.ValueOrder.{tuple_order_same, tuple_order_total}
-use Rattle.td_value.specs.code.Views.{relation_view}
+use Rattle.td_value.specs.model.Sets.{has}
+use Rattle.td_value.specs.model.Values.{IsRelation, Relation, Tuple, tuple_cmp, relation_view}
+use Rattle.td_value.specs.code.ValueOrder.{tuple_order_same, tuple_order_total}
 
 -- where nothing goes out, all is left
 all_left : (ts : List Tuple) → filter (λ t. true) ts ≡ ts

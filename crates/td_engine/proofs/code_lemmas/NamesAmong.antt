@@ -4,8 +4,8 @@ use Rattle.std.specs.List.{list_any}
 use Rattle.std.specs.Prelude.{◌||◌}
 use Rattle.td_engine.proofs.law_lemmas.StayingConditions.{one_named}
 use Rattle.td_types.proofs.HeadingLaws.{same_name-itself}
-use Rattle.td_types.specs.Headings.{has_name}
-use Rattle.td_types.specs.Types.{same_name}
+use Rattle.td_types.specs.model.Headings.{has_name}
+use Rattle.td_types.specs.model.Types.{same_name}
 
 module _ (relvars : List (List ℕ)) where
   -- where one of a list is among them, there is such a name

@@ -3,27 +3,27 @@ use Rattle.std.proofs.Common.{◌≡◌, ◌∙◌, ◌∷◌, ◌++◌, ◌-◌
 use Rattle.std.proofs.lemmas.List.{length-append}
 use Rattle.std.specs.List.{slice_get}
 use Rattle.std.specs.Prelude.{is_some, ⊤}
-use Rattle.td_catalog.specs.Database.{BaseRelvar, Database, NamedConstraint, VirtualRelvar, database_scope, knows_relvar, virtual_relvar, with_base, with_constraint, with_declared, with_virtual}
-use Rattle.td_catalog.specs.Dumps.{ordered_names}
-use Rattle.td_check.specs.OperatorTypes.{over_relation}
-use Rattle.td_check.specs.Scopes.{known_relvar}
-use Rattle.td_check.specs.StatementTypes.{components_meant, holds_or}
-use Rattle.td_check.specs.StaticTypes.{type_of}
+use Rattle.td_catalog.specs.model.Database.{BaseRelvar, Database, NamedConstraint, VirtualRelvar, database_scope, knows_relvar, virtual_relvar, with_base, with_constraint, with_declared, with_virtual}
+use Rattle.td_catalog.specs.model.Dumps.{ordered_names}
+use Rattle.td_check.specs.model.OperatorTypes.{over_relation}
+use Rattle.td_check.specs.model.Scopes.{known_relvar}
+use Rattle.td_check.specs.model.StatementTypes.{components_meant, holds_or}
+use Rattle.td_check.specs.model.StaticTypes.{type_of}
 use Rattle.td_engine.proofs.law_lemmas.Admitted.{both_asked, free_in, is_held}
 use Rattle.td_engine.proofs.code_lemmas.LaterChecks.{base_passes, constraint_decides, type_passes, virtual_decides}
 use Rattle.td_engine.proofs.law_lemmas.Settled.{bases_hold, held_with_base, settled, settled_or}
 use Rattle.td_engine.specs.code.Carried.{Changes, IsAdmitted, Passes}
-use Rattle.td_engine.specs.Checks.{BasesHold, constraint_check, derived_check, keys_hold, virtual_check}
-use Rattle.td_engine.specs.Legality.{IsLegal}
-use Rattle.td_engine.specs.Machine.{Accepted, by_outcome, checked_effect, ok_text, type_defined, virtual_defined}
+use Rattle.td_engine.specs.model.Checks.{BasesHold, constraint_check, derived_check, keys_hold, virtual_check}
+use Rattle.td_engine.specs.model.Legality.{IsLegal}
+use Rattle.td_engine.specs.model.Machine.{Accepted, by_outcome, checked_effect, ok_text, type_defined, virtual_defined}
 use Rattle.td_engine.specs.declared.refusal.Failure.{Failure}
-use Rattle.td_eval.specs.DatabaseWorlds.{world_of}
-use Rattle.td_tree.specs.Outcomes.{Valued}
-use Rattle.td_tree.specs.Trees.{AttributeTrees, Text, Tree, define_virtual}
+use Rattle.td_eval.specs.model.DatabaseWorlds.{world_of}
+use Rattle.td_tree.specs.model.Outcomes.{Valued}
+use Rattle.td_tree.specs.model.Trees.{AttributeTrees, Text, Tree, define_virtual}
 use Rattle.td_tree.specs.declared.cause.Cause.TheVariants as causes
 use Rattle.td_types.proofs.OutcomeLaws.{valued_is, value_of_with}
-use Rattle.td_types.specs.TypeLists.{declared_type}
-use Rattle.td_types.specs.Types.{Type', boolean, char, integer, relation, tuple, unpack, user}
+use Rattle.td_types.specs.model.TypeLists.{declared_type}
+use Rattle.td_types.specs.model.Types.{Type', boolean, char, integer, relation, tuple, unpack, user}
 
 -- the one behind a list
 behind_all : {A : Type 0} (xs : List A) (x : A) → slice_get (xs ++ (x ∷ [])) (length xs) ≡ Some x

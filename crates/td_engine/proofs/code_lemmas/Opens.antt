@@ -2,12 +2,12 @@
 use Rattle.std.proofs.Common.{◌≡◌, ◌∙◌, ◌≤◌, ◌<◌, ◌+◌, ◌∷◌, ℕ, List, [], ap, arith, length, map, refl, reverse, subst, sym, take}
 use Rattle.std.proofs.lemmas.List.{length-map, length-reverse}
 use Rattle.std.specs.List.{AllByRecursion}
-use Rattle.td_catalog.specs.Database.{Database}
-use Rattle.td_catalog.specs.KeptDatabases.{CatalogView, settled_view, stages}
+use Rattle.td_catalog.specs.model.Database.{Database}
+use Rattle.td_catalog.specs.code.KeptDatabases.{CatalogView, settled_view, stages}
 use Rattle.td_engine.proofs.code_lemmas.StageLaws.{back_stage, back_stages, descend_more, keeps_more, present_stage, stages_on}
 use Rattle.td_engine.proofs.law_lemmas.Transactions.{begin_legal, commit_legal, rollback_legal}
-use Rattle.td_engine.specs.Legality.{IsLegal, IsLegalState}
-use Rattle.td_engine.specs.Machine.{state_of, transaction_limit}
+use Rattle.td_engine.specs.model.Legality.{IsLegal, IsLegalState}
+use Rattle.td_engine.specs.model.Machine.{state_of, transaction_limit}
 use Rattle.td_engine.specs.code.Stages.{BeginAtNone, GoesBack, GoesOn, IsEngine, kept_for, stage, state_at}
 
 -- ---- a catalogue that goes on

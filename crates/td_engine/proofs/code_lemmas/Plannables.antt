@@ -1,25 +1,25 @@
 -- Expressions that may be valued by a plan, since they stand in a legal database or in a statement that meets its rules.
 use Rattle.std.proofs.Common.{◌≡◌, ◌∙◌, ◌∷◌, ◌++◌, ℕ, zero, suc, Bool, true, false, List, [], Option, Some, None, ap, map, refl}
 use Rattle.std.specs.List.{slice_get}
-use Rattle.td_catalog.specs.Database.{Database, NamedConstraint, VirtualRelvar, database_scope, known_base, known_virtual}
-use Rattle.td_catalog.specs.TypedDatabases.{IsTyped, IsTypedConstraint}
-use Rattle.td_check.specs.OperatorTypes.{known_or}
-use Rattle.td_check.specs.Scopes.{KnownRelvar, relvar_in}
-use Rattle.td_check.specs.StatementTypes.{type_if_given}
-use Rattle.td_check.specs.StaticTypes.{type_of}
+use Rattle.td_catalog.specs.model.Database.{Database, NamedConstraint, VirtualRelvar, database_scope, known_base, known_virtual}
+use Rattle.td_catalog.specs.model.TypedDatabases.{IsTyped, IsTypedConstraint}
+use Rattle.td_check.specs.model.OperatorTypes.{known_or}
+use Rattle.td_check.specs.model.Scopes.{KnownRelvar, relvar_in}
+use Rattle.td_check.specs.model.StatementTypes.{type_if_given}
+use Rattle.td_check.specs.model.StaticTypes.{type_of}
 use Rattle.td_engine.proofs.law_lemmas.Admitted.{both_asked}
 use Rattle.td_engine.proofs.law_lemmas.EachOf.{of_place}
 use Rattle.td_engine.proofs.law_lemmas.GivenValues.{database_gives}
 use Rattle.td_engine.specs.code.Carried.{IsAdmitted}
-use Rattle.td_engine.specs.Legality.{IsLegal}
+use Rattle.td_engine.specs.model.Legality.{IsLegal}
 use Rattle.td_engine.specs.code.Plannable.{IsPlannable, IsPlannableIf}
 use Rattle.td_tree.specs.declared.cause.Cause.TheVariants as causes
-use Rattle.td_tree.specs.Outcomes.{Valued, with_value}
-use Rattle.td_tree.specs.Trees.{AttributeTrees, Text, Tree, define_base, name, write}
+use Rattle.td_tree.specs.model.Outcomes.{Valued, with_value}
+use Rattle.td_tree.specs.model.Trees.{AttributeTrees, Text, Tree, define_base, name, write}
 use Rattle.td_types.proofs.HeadingLaws.{same_name-itself}
 use Rattle.td_types.proofs.OutcomeLaws.{value_of_with, values_of_both}
-use Rattle.td_types.specs.TypeLists.{heading_meant}
-use Rattle.td_types.specs.Types.{Type', boolean, pack, relation, same_name}
+use Rattle.td_types.specs.model.TypeLists.{heading_meant}
+use Rattle.td_types.specs.model.Types.{Type', boolean, pack, relation, same_name}
 
 -- ---- what a scope knows
 

@@ -2,8 +2,8 @@
 use Rattle.std.proofs.Common.{◌≡◌, ◌∙◌, ◌≤◌, ◌<◌, ◌+◌, ◌∷◌, ◌++◌, ℕ, zero, suc, List, [], ap, append_assoc, append-nil, arith, get_or, length, length-append, map, drop, refl, sym, take}
 use Rattle.std.proofs.Math.Seq.{get_or-append_seam, take-append_seam}
 use Rattle.std.proofs.lemmas.List.{get_or_append_left, length-take-le, take-append-drop}
-use Rattle.td_catalog.specs.Database.{Database}
-use Rattle.td_catalog.specs.KeptDatabases.{CatalogView, advanced_view, stages}
+use Rattle.td_catalog.specs.model.Database.{Database}
+use Rattle.td_catalog.specs.code.KeptDatabases.{CatalogView, advanced_view, stages}
 use Rattle.td_engine.specs.code.Stages.{Descend, GoesOn, stage}
 
 -- ---- lists that end in one more

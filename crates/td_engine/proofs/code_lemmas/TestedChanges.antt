@@ -2,15 +2,14 @@
 use Rattle.std.proofs.Common.{◌≡◌, ◌∙◌, Bool, true, false, [], ap, refl, sym, true≢false}
 use Rattle.td_algebra.proofs.Members.{divided, divides}
 use Rattle.td_algebra.proofs.Relations.{IsRelation-restriction}
-use Rattle.td_algebra.specs.Operators.{difference, is_disjoint, is_subset, union}
+use Rattle.td_algebra.specs.model.Operators.{difference, is_disjoint, is_subset, union}
 use Rattle.td_engine.proofs.code_lemmas.LeftTuples.{nothing_in, nothing_out}
-use Rattle.td_engine.specs.Changes.{changed_by}
+use Rattle.td_engine.specs.code.Changes.{changed_by}
 use Rattle.td_engine.specs.declared.change.Change.{Change}
-use Rattle.td_eval.specs.OperatorValues.{disjoint_union, included_difference}
+use Rattle.td_eval.specs.model.OperatorValues.{disjoint_union, included_difference}
 use Rattle.td_tree.specs.declared.cause.Cause.TheVariants as causes
-use Rattle.td_tree.specs.Outcomes.{Outcome, Only, Refused, Valued, value_if, with_value}
-use Rattle.td_value.specs.Values.{IsRelation, Relation}
-use Rattle.td_value.specs.code.Views.{relation_view}
+use Rattle.td_tree.specs.model.Outcomes.{Outcome, Only, Refused, Valued, value_if, with_value}
+use Rattle.td_value.specs.model.Values.{IsRelation, Relation, relation_view}
 
 -- ---- none is in both
 

@@ -1,8 +1,8 @@
 -- Bytes that are told, over several calls.
 use Rattle.std.proofs.Common.{ℕ, List, ◌++◌, Option, Some, None, ap, ◌∙◌, append_assoc}
 use Rattle.std.specs.Io.KnownBytes.{Appends}
-use Rattle.td_engine.specs.Told.{AppendsIfTold}
-use Rattle.td_engine.specs.Told.{KeepsIfTold}
+use Rattle.td_engine.specs.model.Told.{AppendsIfTold}
+use Rattle.td_engine.specs.model.Told.{KeepsIfTold}
 
 pub kept_after : (a b c : Option (List ℕ)) (bytes : List ℕ) → Appends a b bytes → KeepsIfTold b c → AppendsIfTold a c bytes
 kept_after None b c bytes h k = tt

@@ -4,17 +4,17 @@ use Rattle.std.proofs.KnownBytes.{Appends-trans}
 use Rattle.std.specs.Io.KnownBytes.{Appends}
 use Rattle.std.specs.String.{string_bytes}
 use Rattle.td_engine.proofs.law_lemmas.Runs.{runs_append}
-use Rattle.td_engine.specs.Faults.{IfMemory, IfRead, IfReadLimit, IfWrite}
-use Rattle.td_engine.specs.Machine.{Progress, State, Step, Steps, nothing, next, and_then, progress_at_first, has_stopped, refusals_of}
-use Rattle.td_engine.specs.Standing.{IsLeft, Run, RunsTo, Standing}
+use Rattle.td_engine.specs.model.Faults.{IfMemory, IfRead, IfReadLimit, IfWrite}
+use Rattle.td_engine.specs.model.Machine.{Progress, State, Step, Steps, nothing, next, and_then, progress_at_first, has_stopped, refusals_of}
+use Rattle.td_engine.specs.model.Standing.{IsLeft, Run, RunsTo, Standing}
 use Rattle.td_engine.specs.code.Steps.{IsParsed, IsStep, step_view}
-use Rattle.td_engine.specs.Told.{AppendsIfTold}
-use Rattle.td_engine.specs.code.Turns.{FirstStep, HasTurned, HasTurnedCut, IsReading, Place, Turned}
+use Rattle.td_engine.specs.model.Told.{AppendsIfTold}
+use Rattle.td_engine.specs.code.Turns.{FirstStep, HasTurned, HasTurnedCut, IsReading, RunPlace, Turned}
 use Rattle.td_engine.specs.declared.answer.Answer as code
 use Rattle.td_engine.specs.declared.run.RunFault.TheVariants.{Memory, Read, ReadLimit, Write}
 use Rattle.td_engine.specs.declared.run.RunFault.{RunFault}
 use Rattle.td_scan.proofs.TakenLaws.{fewer_bytes}
-use Rattle.td_tree.specs.Statements.{PlacedToken, Held, after}
+use Rattle.td_tree.specs.model.Statements.{PlacedToken, Held, after}
 use Rattle.td_tree.specs.declared.cause.Cause.{Cause}
 use Rattle.td_tree.specs.declared.fault.Fault.{Fault}
 use Rattle.td_tree.specs.declared.statement.Statement.{Statement}
@@ -37,7 +37,7 @@ refused_more : (cause : Option Cause) (accepted : Bool) (refused more : ℕ) →
 refused_more None accepted refused more h e = e ∙ ap (λ b. refused + (if b then 0 else 1)) h
 refused_more (Some cause) accepted refused more h e = e ∙ ap (λ b. refused + (if b then 0 else 1)) h
 
-pub turned : (old new : Place) (parsed : Result Statement Fault) (end : ℕ) (answer : code.Answer) → IsReading old.held parsed end
+pub turned : (old new : RunPlace) (parsed : Result Statement Fault) (end : ℕ) (answer : code.Answer) → IsReading old.held parsed end
     → ((tokens : List PlacedToken) → IsParsed tokens parsed → IsStep old.standing.state tokens answer new.standing.state)
     → new.held ≡ after old.held → Appends old.standing.taken new.standing.taken (string_bytes answer.text)
     → new.report.statements ≡ old.report.statements + 1 → new.report.refused ≡ old.report.refused + (if answer.accepted then 0 else 1)
@@ -51,7 +51,7 @@ turned old new parsed end answer r does held wrote counted refusals = record {
   refused_are = refused_more answer.cause answer.accepted old.report.refused new.report.refused (does r.statement r.means).accepted refusals;
 }
 
-pub turned_cut : (old : Place) (new : Standing) (parsed : Result Statement Fault) (end : ℕ) (answer : code.Answer) (count : ℕ) → IsReading old.held parsed end
+pub turned_cut : (old : RunPlace) (new : Standing) (parsed : Result Statement Fault) (end : ℕ) (answer : code.Answer) (count : ℕ) → IsReading old.held parsed end
     → ((tokens : List PlacedToken) → IsParsed tokens parsed → IsStep old.standing.state tokens answer new.state)
     → AppendsIfTold old.standing.taken new.taken (take count (string_bytes answer.text)) → HasTurnedCut old new
 unfolding first_step
@@ -62,20 +62,20 @@ turned_cut old new parsed end answer count r does wrote = record {
 }
 
 -- where there was a statement, it was run
-pub was_turned : (old new : Place) (found : Bool) → Turned old new found → found ≡ true → HasTurned old new
+pub was_turned : (old new : RunPlace) (found : Bool) → Turned old new found → found ≡ true → HasTurned old new
 was_turned old new true t e = t
 was_turned old new false t e = cc
 
 -- what is taken off takes bytes off
-pub turned_fewer : (old new : Place) → HasTurned old new → length new.held.bytes < length old.held.bytes
+pub turned_fewer : (old new : RunPlace) → HasTurned old new → length new.held.bytes < length old.held.bytes
 turned_fewer old new t = omega (arith, fewer_bytes old.held t.first.statement t.first.is, ap (λ (h : Held). length h.bytes) t.held_is)
 
 -- the cutter was fed all before and is so after
-pub turned_finished : (old new : Place) → HasTurned old new → old.held.finished ≡ true → new.held.finished ≡ true
+pub turned_finished : (old new : RunPlace) → HasTurned old new → old.held.finished ≡ true → new.held.finished ≡ true
 turned_finished old new t h = ap (λ (h : Held). h.finished) t.held_is ∙ h
 
 -- no more refusals than statements
-pub turned_refused : (old new : Place) → HasTurned old new → old.report.refused ≤ old.report.statements → new.report.refused ≤ new.report.statements
+pub turned_refused : (old new : RunPlace) → HasTurned old new → old.report.refused ≤ old.report.statements → new.report.refused ≤ new.report.statements
 turned_refused old new t h = by_cause t.first.step.cause t.refused_are
   where
     by_cause : (cause : Option Cause) → new.report.refused ≡ old.report.refused + refusals_of cause → new.report.refused ≤ new.report.statements
@@ -92,7 +92,7 @@ pub runs_more : (run : Run) (done : List (List PlacedToken)) (p : Progress) (old
 runs_more run done p old x step runs goes is steps =
     runs_append run.stop (progress_at_first run.old.state) done p (x ∷ []) (and_then p step) runs (next step goes (subst (λ (d : State). Steps d x step) is steps) nothing)
 
-pub left_more : (run : Run) (done : List (List PlacedToken)) (old new : Place) → (run.stop && nat_lt 0 old.report.refused) ≡ false
+pub left_more : (run : Run) (done : List (List PlacedToken)) (old new : RunPlace) → (run.stop && nat_lt 0 old.report.refused) ≡ false
     → IsLeft (record run { script = done }) old.standing old.report → (t : HasTurned old new)
     → IsLeft (record run { script = done ++ (t.first.statement ∷ []) }) new.standing new.report
 left_more run done old new goes left t =

@@ -5,26 +5,26 @@ use Rattle.std.specs.Cmp.Lexicographic.{same_text}
 use Rattle.std.specs.Prelude.{◌||◌, cond, if◌then◌else◌}
 use Rattle.std.specs.List.{AllByRecursion}
 use Rattle.std.specs.Map.{keys_of}
-use Rattle.td_catalog.specs.Database.{BaseRelvar, Database, NamedConstraint, VirtualRelvar, base_among}
-use Rattle.td_catalog.specs.TypedDatabases.{IsTyped}
+use Rattle.td_catalog.specs.model.Database.{BaseRelvar, Database, NamedConstraint, VirtualRelvar, base_among}
+use Rattle.td_catalog.specs.model.TypedDatabases.{IsTyped}
 use Rattle.td_engine.proofs.law_lemmas.EachOf.{all_given, neither}
-use Rattle.td_engine.proofs.law_lemmas.Gifted.{given_none, same_named}
+use Rattle.td_engine.proofs.law_lemmas.AssignedBases.{given_none, same_named}
 use Rattle.td_engine.proofs.law_lemmas.SameTests.{IsKnown, all_known, name_checked, same_test, same_truth}
 use Rattle.td_engine.proofs.law_lemmas.TestsAfterDrops.{IsAsked, all_asked, tree_checked}
-use Rattle.td_engine.specs.Assignments.{Given, given_to, with_gift, with_gifts}
-use Rattle.td_engine.specs.Changes.{given_in}
-use Rattle.td_engine.specs.Checks.{refusal_unless_passed}
+use Rattle.td_engine.specs.model.Assignments.{Given, given_to, with_assigned, with_all_assigned}
+use Rattle.td_engine.specs.code.Changes.{given_in}
+use Rattle.td_engine.specs.model.Checks.{refusal_unless_passed}
 use Rattle.td_engine.specs.declared.change.Change.{Change}
-use Rattle.td_engine.specs.LeftOut.{PassesElsewhere, PassesUnlessNamed, PassesUnlessReached}
-use Rattle.td_engine.specs.Legality.{HasKeysThatHold, IsLegal, IsTrueOf}
-use Rattle.td_engine.specs.Refusals.{by_constraint, by_key}
+use Rattle.td_engine.specs.laws.LeftOut.{PassesElsewhere, PassesUnlessNamed, PassesUnlessReached}
+use Rattle.td_engine.specs.model.Legality.{HasKeysThatHold, IsLegal, IsTrueOf}
+use Rattle.td_engine.specs.model.Refusals.{by_constraint, by_key}
 use Rattle.td_eval.proofs.law_lemmas.UnreachedValues.{unreached_values_stay}
-use Rattle.td_eval.specs.DatabaseWorlds.{world_of}
-use Rattle.td_eval.specs.ReachedRelvars.{DiffersIn, reached_from}
-use Rattle.td_tree.specs.Trees.{name}
+use Rattle.td_eval.specs.model.DatabaseWorlds.{world_of}
+use Rattle.td_eval.specs.laws.ReachedRelvars.{DiffersIn, reached_from}
+use Rattle.td_tree.specs.model.Trees.{name}
 use Rattle.td_types.proofs.HeadingLaws.{same_name-itself}
-use Rattle.td_types.specs.Headings.{has_name}
-use Rattle.td_types.specs.Types.{same_name}
+use Rattle.td_types.specs.model.Headings.{has_name}
+use Rattle.td_types.specs.model.Types.{same_name}
 
 -- ---- what was given
 
@@ -44,22 +44,22 @@ ungiven (g ∷ gs) n none = by_test (same_name n g.0) refl (ungiven gs n apart.1
 
 -- then the base relvar of that name is as it was
 module _ (given : Given) (n : List ℕ) (none : has_name n (keys_of given) ≡ false) where
-  still_named : (bases : List BaseRelvar) (r : BaseRelvar) → base_among n bases ≡ Some r → base_among n (map (with_gift given) bases) ≡ Some r
+  still_named : (bases : List BaseRelvar) (r : BaseRelvar) → base_among n bases ≡ Some r → base_among n (map (with_assigned given) bases) ≡ Some r
   still_named [] r is = absurd (cc)
   still_named (b ∷ bs) r is = by_test (same_name b.name n) refl is (still_named bs r)
     where
       by_test : (t : Bool) → same_name b.name n ≡ t → (if t then Some b else base_among n bs) ≡ Some r
-          → (base_among n bs ≡ Some r → base_among n (map (with_gift given) bs) ≡ Some r)
-          → base_among n (with_gift given b ∷ map (with_gift given) bs) ≡ Some r
+          → (base_among n bs ≡ Some r → base_among n (map (with_assigned given) bs) ≡ Some r)
+          → base_among n (with_assigned given b ∷ map (with_assigned given) bs) ≡ Some r
       by_test true same found rest =
-          let own : with_gift given b ≡ b =
+          let own : with_assigned given b ≡ b =
           given_none given b (ap (λ m. given_to m given) (same_text b.name n (sym same)) ∙ ungiven given n none) in
-          ap (λ (c : BaseRelvar). if same_name c.name n then Some c else base_among n (map (with_gift given) bs)) own ∙ rw same found
+          ap (λ (c : BaseRelvar). if same_name c.name n then Some c else base_among n (map (with_assigned given) bs)) own ∙ rw same found
       by_test false other found rest =
-          ap (λ m. if same_name m n then Some (with_gift given b) else base_among n (map (with_gift given) bs)) (same_named given b) ∙ rw other (rest found)
+          ap (λ m. if same_name m n then Some (with_assigned given b) else base_among n (map (with_assigned given) bs)) (same_named given b) ∙ rw other (rest found)
 
-pub gifts_differ : (db : Database) (given : Given) → DiffersIn (keys_of given) db (with_gifts given db)
-gifts_differ db given =
+pub all_assigned_differ : (db : Database) (given : Given) → DiffersIn (keys_of given) db (with_all_assigned given db)
+all_assigned_differ db given =
     record {
       types = refl;
       virtuals = refl;
@@ -101,9 +101,9 @@ module _ (changed : List (List ℕ)) (db next : Database) (legal : IsLegal db) (
 
 -- ---- what assignments gave
 
-pub gifts_pass_elsewhere : (db : Database) (given : Given) → IsLegal db → IsTyped (with_gifts given db)
-    → PassesElsewhere (reached_from (keys_of given) db.virtuals) (with_gifts given db)
-gifts_pass_elsewhere db given legal is_typed = passes_elsewhere (keys_of given) db (with_gifts given db) legal is_typed (gifts_differ db given) refl
+pub all_assigned_pass_elsewhere : (db : Database) (given : Given) → IsLegal db → IsTyped (with_all_assigned given db)
+    → PassesElsewhere (reached_from (keys_of given) db.virtuals) (with_all_assigned given db)
+all_assigned_pass_elsewhere db given legal is_typed = passes_elsewhere (keys_of given) db (with_all_assigned given db) legal is_typed (all_assigned_differ db given) refl
 
 -- what is given by changes has the targets of these
 pub same_targets : (db : Database) (es : List (List ℕ × Change)) → keys_of (given_in db es) ≡ keys_of es

@@ -1,10 +1,10 @@
 -- The test of a virtual relvar that has keys.
 use Rattle.std.proofs.Common.{◌≡◌, ◌∙◌, ◌∷◌, ap, ℕ, Bool, true, false, List, [], length, map, ◌==◌, refl}
-use Rattle.td_catalog.specs.Database.{VirtualRelvar}
-use Rattle.td_engine.specs.Checks.{keys_hold, virtual_test}
-use Rattle.td_eval.specs.OperatorValues.{on_relation}
-use Rattle.td_eval.specs.Worlds.{World, name_value}
-use Rattle.td_tree.specs.Outcomes.{Outcome, Valued, with_value}
+use Rattle.td_catalog.specs.model.Database.{VirtualRelvar}
+use Rattle.td_engine.specs.model.Checks.{keys_hold, virtual_test}
+use Rattle.td_eval.specs.model.OperatorValues.{on_relation}
+use Rattle.td_eval.specs.model.Worlds.{World, name_value}
+use Rattle.td_tree.specs.model.Outcomes.{Outcome, Valued, with_value}
 
 pub some_key : {K : Type 0} (f : K → List (List ℕ)) (items : List K) (n : ℕ) → n ≡ length items → false ≡ (n == 0) → map f items ≡ [] → ⊥
 some_key f [] n is h e = let no : false ≡ (0 == 0) = h ∙ ap (λ k. k == 0) is in absurd (cc)

@@ -2,39 +2,40 @@
 use Rattle.std.proofs.Common.{◌≡◌, ◌∙◌, ◌∷◌, Bool, true, false, List, [], Option, Some, None, Err, ap, map, refl, subst, sym}
 use Rattle.std.specs.Prelude.{IsTrue, is_some, not, ⊤}
 use Rattle.std.specs.List.{AllByRecursion}
-use Rattle.td_catalog.specs.Database.{Database, NamedConstraint, VirtualRelvar, database_scope, knows_constraint, knows_relvar, named_constraint, virtual_relvar}
-use Rattle.td_catalog.specs.Dumps.{ordered_names}
-use Rattle.td_catalog.specs.TypedDatabases.{AreComponents, IsConstrained, IsTypedConstraint, IsTypedVirtual}
-use Rattle.td_check.specs.OperatorTypes.{over_relation, same_type}
-use Rattle.td_check.specs.Scopes.{KnownRelvar, known_relvar, scope_of}
-use Rattle.td_tree.specs.Names.{IsName}
+use Rattle.td_catalog.specs.model.Database.{Database, NamedConstraint, VirtualRelvar, database_scope, knows_constraint, knows_relvar, named_constraint, virtual_relvar}
+use Rattle.td_catalog.specs.model.Dumps.{ordered_names}
+use Rattle.td_catalog.specs.model.TypedDatabases.{AreComponents, IsConstrained, IsTypedConstraint, IsTypedVirtual}
+use Rattle.td_check.specs.model.OperatorTypes.{over_relation, same_type}
+use Rattle.td_check.specs.model.Scopes.{KnownRelvar, known_relvar, scope_of}
+use Rattle.td_tree.specs.model.Names.{IsName}
 use Rattle.td_tree.specs.declared.cause.Cause.TheVariants as causes
-use Rattle.td_check.specs.StatementTypes.{both_hold, components_meant, constraint_fits, heading_rank_fits, holds_or, keys_asked, keys_allowed, rank_fits}
-use Rattle.td_check.specs.StaticTypes.{type_of}
+use Rattle.td_check.specs.model.StatementTypes.{both_hold, components_meant, constraint_fits, heading_rank_fits, holds_or, keys_asked, keys_allowed, rank_fits}
+use Rattle.td_check.specs.model.StaticTypes.{type_of}
 use Rattle.td_engine.proofs.law_lemmas.OrderedKeys.{keys_stay_allowed}
-use Rattle.td_engine.specs.code.Carried.{Changes, IsAdmitted, IsSpelledStatement, failure_of}
-use Rattle.td_engine.specs.Machine.{Denied, Effect, by_outcome}
-use Rattle.td_engine.specs.Refusals.{by_cause}
-use Rattle.td_tree.specs.Grammar.{AttributesSpelling, last_attribute, next_attribute}
-use Rattle.td_tree.specs.Lexemes.{Lexeme}
-use Rattle.td_tree.specs.Outcomes.{Answers, Outcome, Valued, Refused, least, named_cause, with_value}
-use Rattle.td_tree.specs.StatementGrammar.{BodySpelling, StatementSpelling, statement, type_definition}
-use Rattle.td_tree.specs.TokenLexemes.{lexemes}
-use Rattle.td_tree.specs.Trees as trees
-use Rattle.td_tree.specs.Trees.{AttributeTrees, Text, Tree}
+use Rattle.td_engine.specs.code.Carried.{Changes, IsAdmitted, failure_of}
+use Rattle.td_engine.specs.laws.LegalityLaws.{IsSpelledStatement}
+use Rattle.td_engine.specs.model.Machine.{Denied, Effect, by_outcome}
+use Rattle.td_engine.specs.model.Refusals.{by_cause}
+use Rattle.td_tree.specs.model.Grammar.{AttributesSpelling, last_attribute, next_attribute}
+use Rattle.td_tree.specs.model.Lexemes.{Lexeme}
+use Rattle.td_tree.specs.model.Outcomes.{Answers, Outcome, Valued, Refused, least, named_cause, with_value}
+use Rattle.td_tree.specs.model.StatementGrammar.{BodySpelling, StatementSpelling, statement, type_definition}
+use Rattle.td_tree.specs.model.TokenLexemes.{lexemes}
+use Rattle.td_tree.specs.model.Trees as trees
+use Rattle.td_tree.specs.model.Trees.{AttributeTrees, Text, Tree}
 use Rattle.td_tree.specs.declared.cause.Cause.{Cause}
 use Rattle.td_tree.specs.declared.fault.Fault.{Fault}
 use Rattle.td_tree.specs.declared.fault.Fault.TheVariants as faults
-use Rattle.td_types.specs.Headings.{are_distinct}
-use Rattle.td_types.specs.TypeLists.{AreKnown, DeclaredType, IsKnown, attributes_meant, declared_type, is_declared}
-use Rattle.td_types.specs.Types.{Attribute, Heading, IsHeading, IsType, Type', attribute_names, boolean, char, integer, pack, relation, tuple, unpack, user}
+use Rattle.td_types.specs.model.Headings.{are_distinct}
+use Rattle.td_types.specs.model.TypeLists.{AreKnown, DeclaredType, IsKnown, attributes_meant, declared_type, is_declared}
+use Rattle.td_types.specs.model.Types.{Attribute, Heading, IsHeading, IsType, Type', attribute_names, boolean, char, integer, pack, relation, tuple, unpack, user}
 use Rattle.td_types.proofs.Meanings.{known_attributes, pack_unpack}
 use Rattle.td_check.proofs.StaticLaws.{types_are_known}
-use Rattle.td_engine.specs.Legality.{IsRuledVirtual, IsRanked, IsLegal}
+use Rattle.td_engine.specs.model.Legality.{IsRuledVirtual, IsRanked, IsLegal}
 use Rattle.td_eval.proofs.law_lemmas.KnownRelvars.{unknown_parts, unnamed}
 use Rattle.td_eval.proofs.law_lemmas.TypedDatabases.{database_keeps}
 use Rattle.td_eval.proofs.code_lemmas.TypedValues.{type_is}
-use Rattle.td_tree.specs.WrittenTrees.{HaveNames}
+use Rattle.td_tree.specs.model.WrittenTrees.{HaveNames}
 use Rattle.td_types.proofs.OutcomeLaws.{valued_is, value_of_test, value_of_with, values_of_both}
 
 -- ---- outcomes

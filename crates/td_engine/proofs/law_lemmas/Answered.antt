@@ -2,22 +2,23 @@
 use Rattle.std.proofs.Common.{◌≡◌, ◌∙◌, ℕ, List, None, Result, Ok, Err, ap, refl, subst, sym}
 use Rattle.std.specs.Prelude.{IfOk, IsTrue, is_none}
 use Rattle.std.specs.String.{string_bytes}
-use Rattle.td_catalog.specs.Database.{Database}
-use Rattle.td_engine.specs.code.Carried.{AnswersText, Changes, IsAdmitted, IsDenied, IsOfDatabase, IsRefusedBy, IsSpelledStatement, Prints}
-use Rattle.td_engine.specs.Machine.{Accepted, Denied, Effect, State, Step, by_outcome, carried_out, effect, effect_in, keeping, ok_text, state_of, step_of, step_of_outcome}
-use Rattle.td_engine.specs.Refusals.{by_cause}
-use Rattle.td_engine.specs.Legality.{IsLegal}
+use Rattle.td_catalog.specs.model.Database.{Database}
+use Rattle.td_engine.specs.code.Carried.{AnswersText, Changes, IsAdmitted, IsDenied, IsOfDatabase, IsRefusedBy, Prints}
+use Rattle.td_engine.specs.laws.LegalityLaws.{IsSpelledStatement}
+use Rattle.td_engine.specs.model.Machine.{Accepted, Denied, Effect, State, Step, by_outcome, carried_out, effect, effect_in, keeping, ok_text, state_of, step_of, step_of_outcome}
+use Rattle.td_engine.specs.model.Refusals.{by_cause}
+use Rattle.td_engine.specs.model.Legality.{IsLegal}
 use Rattle.td_engine.specs.code.Steps.{Does, IsParsed, IsStep}
 use Rattle.td_engine.specs.declared.answer.Answer as code
 use Rattle.td_engine.specs.declared.refusal.Failure.{Failure}
 use Rattle.td_engine.specs.declared.refusal.Failure.TheVariants as failures
 use Rattle.td_engine.proofs.law_lemmas.Admitted.{some_cause}
 use Rattle.td_engine.proofs.law_lemmas.KeptLegal.{carried_legal}
-use Rattle.td_parse.specs.code.Parsing.{Parsed, bad_token, nothing_spelled, statement_spelled}
-use Rattle.td_tree.specs.Outcomes.{Answers, Outcome, Valued, Refused, least}
-use Rattle.td_tree.specs.Statements.{PlacedToken}
+use Rattle.td_parse.specs.model.Meanings.{Parsed, bad_token, nothing_spelled, statement_spelled}
+use Rattle.td_tree.specs.model.Outcomes.{Answers, Outcome, Valued, Refused, least}
+use Rattle.td_tree.specs.model.Statements.{PlacedToken}
 use Rattle.td_tree.specs.code.TreeViews.{statement_view}
-use Rattle.td_tree.specs.Trees.{Statement, empty, define_type, drop_type, define_base, define_virtual, drop_var, define_constraint, drop_constraint, assign_all, begin_transaction, commit, rollback, write, dump}
+use Rattle.td_tree.specs.model.Trees.{Statement, empty, define_type, drop_type, define_base, define_virtual, drop_var, define_constraint, drop_constraint, assign_all, begin_transaction, commit, rollback, write, dump}
 use Rattle.td_tree.specs.declared.fault.Fault.{Fault}
 use Rattle.td_tree.specs.declared.fault.Fault.TheVariants as faults
 use Rattle.td_tree.specs.declared.statement.Statement as code_tree

@@ -1,29 +1,28 @@
 -- What is known of a base relvar that is spelled and meets the static rules.
 use Rattle.std.proofs.Common.{◌≡◌, ◌∙◌, ◌∷◌, ℕ, List, [], Option, Some, None, refl, subst, sym}
-use Rattle.td_catalog.specs.Database.{Database, database_scope}
-use Rattle.td_catalog.specs.TypedDatabases.{AreTyped}
-use Rattle.td_check.specs.StatementTypes.{has_key, keys_allowed, type_if_given}
-use Rattle.td_check.specs.StaticTypes.{type_of}
+use Rattle.td_catalog.specs.model.Database.{Database, database_scope}
+use Rattle.td_catalog.specs.model.TypedDatabases.{AreTyped}
+use Rattle.td_check.specs.model.StatementTypes.{has_key, keys_allowed, type_if_given}
+use Rattle.td_check.specs.model.StaticTypes.{type_of}
 use Rattle.td_engine.specs.code.Carried.{IsAdmitted}
-use Rattle.td_engine.specs.Machine.{init_relation}
-use Rattle.td_engine.specs.Legality.{AreBaseKeys, IsRankedHeading, IsLegal}
+use Rattle.td_engine.specs.model.Machine.{init_relation}
+use Rattle.td_engine.specs.model.Legality.{AreBaseKeys, IsRankedHeading, IsLegal}
 use Rattle.td_engine.specs.code.Plannable.{IsWrittenIf}
 use Rattle.td_engine.proofs.law_lemmas.Admitted.{both_asked, is_held}
 use Rattle.td_engine.proofs.law_lemmas.TypedRelations.{FitsTarget, source_fits}
 use Rattle.td_eval.proofs.law_lemmas.TypedDatabases.{database_keeps}
-use Rattle.td_eval.specs.DatabaseWorlds.{world_of}
-use Rattle.td_tree.specs.Outcomes.{Valued, with_value}
-use Rattle.td_tree.specs.Trees as trees
-use Rattle.td_tree.specs.Trees.{AttributeTrees, Text, Tree}
-use Rattle.td_tree.specs.WrittenTrees.{HaveNames}
+use Rattle.td_eval.specs.model.DatabaseWorlds.{world_of}
+use Rattle.td_tree.specs.model.Outcomes.{Valued, with_value}
+use Rattle.td_tree.specs.model.Trees as trees
+use Rattle.td_tree.specs.model.Trees.{AttributeTrees, Text, Tree}
+use Rattle.td_tree.specs.model.WrittenTrees.{HaveNames}
 use Rattle.td_tree.specs.declared.cause.Cause.TheVariants as causes
 use Rattle.td_types.proofs.Meanings.{known_attributes, known_heading}
 use Rattle.td_types.proofs.OutcomeLaws.{valued_is, value_of_with, values_of_both}
-use Rattle.td_types.specs.Headings.{made_heading}
-use Rattle.td_types.specs.TypeLists.{AreKnown, attributes_meant, heading_meant}
-use Rattle.td_types.specs.Types.{Heading, Type', pack}
-use Rattle.td_value.specs.Values.{Relation}
-use Rattle.td_value.specs.code.Views.{relation_view}
+use Rattle.td_types.specs.model.Headings.{made_heading}
+use Rattle.td_types.specs.model.TypeLists.{AreKnown, attributes_meant, heading_meant}
+use Rattle.td_types.specs.model.Types.{Heading, Type', pack}
+use Rattle.td_value.specs.model.Values.{Relation, relation_view}
 
 some_key : (keys : List (List (List ℕ))) → has_key keys ≡ Valued tt → keys ≡ [] → ⊥
 some_key [] h e = absurd (cc)

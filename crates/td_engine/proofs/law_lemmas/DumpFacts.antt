@@ -4,24 +4,24 @@ use Rattle.std.specs.Prelude.{nat_le}
 use Rattle.std.specs.List.{AllByRecursion}
 use Rattle.std.proofs.lemmas.Bool.Decides.{nat_tests}
 use Rattle.std.proofs.lemmas.List.Elements.{Contains-get_or, recursion_from_All}
-use Rattle.td_check.specs.StatementTypes.{heading_rank_fits, rank_fits, type_rank_fits}
-use Rattle.td_engine.specs.Legality.{IsSpelledExpression}
+use Rattle.td_check.specs.model.StatementTypes.{heading_rank_fits, rank_fits, type_rank_fits}
+use Rattle.td_engine.specs.model.Legality.{IsSpelledExpression}
 use Rattle.td_tree.specs.declared.cause.Cause.TheVariants as causes
-use Rattle.td_tree.specs.Grammar.{height_limit}
-use Rattle.td_tree.specs.Heights.{attributes_height, height, type_height}
-use Rattle.td_tree.specs.Names.{IsName}
-use Rattle.td_tree.specs.Outcomes.{Valued, value_if}
-use Rattle.td_tree.specs.Statements.{tokens}
-use Rattle.td_tree.specs.Trees.{relation_type}
-use Rattle.td_types.specs.TypeLists.{AreDeclared, AreKnown, DeclaredType, IsDeclarable, limited_rank, rank_limit, rank_of, user_ranks}
-use Rattle.td_types.specs.TypeTrees.{attribute_trees}
-use Rattle.td_types.specs.Types.{Attribute, Heading, IsHeading, IsType, attribute_names, pack, relation, tuple, Type'}
+use Rattle.td_tree.specs.model.Grammar.{height_limit}
+use Rattle.td_tree.specs.model.Heights.{attributes_height, height, type_height}
+use Rattle.td_tree.specs.model.Names.{IsName}
+use Rattle.td_tree.specs.model.Outcomes.{Valued, value_if}
+use Rattle.td_tree.specs.model.Statements.{tokens}
+use Rattle.td_tree.specs.model.Trees.{relation_type}
+use Rattle.td_types.specs.model.TypeLists.{AreDeclared, AreKnown, DeclaredType, IsDeclarable, limited_rank, rank_limit, rank_of, user_ranks}
+use Rattle.td_types.specs.laws.TypeTrees.{attribute_trees}
+use Rattle.td_types.specs.model.Types.{Attribute, Heading, IsHeading, IsType, attribute_names, pack, relation, tuple, Type'}
 use Rattle.td_types.proofs.OutcomeLaws.{value_of_test, value_of_with}
 use Rattle.td_types.proofs.RankBounds.{type_low, user_ranks_positive}
-use Rattle.td_value.specs.KnownValues.{HaveHeading}
-use Rattle.td_value.specs.Literal.{literal}
-use Rattle.td_value.specs.LiteralTrees.{literal_tree}
-use Rattle.td_value.specs.Values.{IsRelation, Relation, pack_rows, relation_value}
+use Rattle.td_value.specs.model.KnownValues.{HaveHeading}
+use Rattle.td_value.specs.model.Literal.{literal}
+use Rattle.td_value.specs.laws.LiteralTrees.{literal_tree}
+use Rattle.td_value.specs.model.Values.{IsRelation, Relation, pack_rows, relation_value}
 use Rattle.td_value.proofs.LiteralHeights.{low}
 use Rattle.td_value.proofs.LiteralSpellings.{literals_spell}
 use Rattle.td_engine.proofs.law_lemmas.DumpLists.{AreTypedNames}

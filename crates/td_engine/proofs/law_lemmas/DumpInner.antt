@@ -8,13 +8,13 @@ use Rattle.td_tree.specs.declared.operator.Prefix.{Prefix}
 use Rattle.td_tree.specs.declared.operator.Prefix.TheVariants as prefixes
 use Rattle.td_tree.specs.declared.operator.Style.TheVariants as styles
 use Rattle.td_tree.specs.declared.token.Sign.TheVariants as signs
-use Rattle.td_tree.specs.Grammar.{comparison_word, operator_words}
-use Rattle.td_tree.specs.Lexemes.{Lexeme}
-use Rattle.td_tree.specs.Lexemes as lexeme
-use Rattle.td_tree.specs.Lists.{with_braces, with_parentheses}
-use Rattle.td_tree.specs.Prints.{addition_lexemes, all_lexemes, attribute_lexemes, attributes_lexemes, commas, following, lexemes_of, literal_lexemes, part_lexemes, postfix_lexemes, prefix_words, renaming_lexemes, setting_lexemes, summary_lexemes, type_lexemes}
-use Rattle.td_tree.specs.Trees as trees
-use Rattle.td_tree.specs.Trees.{AttributeTrees, Attributes, Literal, NamedTrees, Postfix, Renaming, Summaries, Text, Tree, Trees, TypeTree}
+use Rattle.td_tree.specs.model.Grammar.{comparison_word, operator_words}
+use Rattle.td_tree.specs.model.Lexemes.{Lexeme}
+use Rattle.td_tree.specs.model.Lexemes as lexeme
+use Rattle.td_tree.specs.model.Lists.{with_braces, with_parentheses}
+use Rattle.td_tree.specs.model.Prints.{addition_lexemes, all_lexemes, attribute_lexemes, attributes_lexemes, commas, following, lexemes_of, literal_lexemes, part_lexemes, postfix_lexemes, prefix_words, renaming_lexemes, setting_lexemes, summary_lexemes, type_lexemes}
+use Rattle.td_tree.specs.model.Trees as trees
+use Rattle.td_tree.specs.model.Trees.{AttributeTrees, Attributes, Literal, NamedTrees, Postfix, Renaming, Summaries, Text, Tree, Trees, TypeTree}
 
 abbrev pub IsInner : Lexeme → Type 0
 IsInner (lexeme.sign signs.Semicolon) = ⊥

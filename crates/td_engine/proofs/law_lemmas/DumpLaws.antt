@@ -1,13 +1,13 @@
 -- The dump of a legal database rebuilds it.
 use Rattle.std.proofs.Common.{◌≡◌, ℕ, Bool, List, Result, Ok, Err, subst, sym}
 use Rattle.std.specs.Prelude.{IfOk}
-use Rattle.td_catalog.specs.Database.{Database}
-use Rattle.td_catalog.specs.Dumps.{dump_text}
+use Rattle.td_catalog.specs.model.Database.{Database}
+use Rattle.td_catalog.specs.model.Dumps.{dump_text}
 use Rattle.td_engine.proofs.law_lemmas.DumpRead.{dumps_read}
 use Rattle.td_engine.proofs.law_lemmas.Rebuilds.{rebuilds}
 use Rattle.td_engine.proofs.law_lemmas.RebuiltDumps.{dumps_are_accepted}
-use Rattle.td_engine.specs.Rebuilding.{DumpsRebuild, Rebuilds}
-use Rattle.td_engine.specs.Legality.{IsLegal}
+use Rattle.td_engine.specs.laws.Rebuilding.{DumpsRebuild, Rebuilds}
+use Rattle.td_engine.specs.model.Legality.{IsLegal}
 
 pub dumps_rebuild : DumpsRebuild
 dumps_rebuild stop db legal = rebuilds stop db (dumps_read db legal) (dumps_are_accepted db legal)

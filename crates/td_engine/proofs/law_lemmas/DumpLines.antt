@@ -1,30 +1,30 @@
 -- Each line of a dump is seen as the lexemes of its statement with a `;` behind them, which spell it.
 use Rattle.std.proofs.Common.{◌≡◌, ◌≤◌, ℕ, List, [], ◌∷◌, ◌++◌, Option, Some, None, ap, append_assoc, refl, subst}
 use Rattle.std.specs.List.{AllByRecursion}
-use Rattle.td_catalog.specs.Database.{BaseRelvar, NamedConstraint, VirtualRelvar}
-use Rattle.td_catalog.specs.Dumps.{base_line, condition_text, constraint_line, line_end, type_line, virtual_line}
-use Rattle.td_engine.specs.Rebuilding.{base_statement, constraint_statement, type_statement, virtual_statement}
-use Rattle.td_engine.specs.Legality.{IsSpelledExpression, IsSpelledIf}
+use Rattle.td_catalog.specs.model.Database.{BaseRelvar, NamedConstraint, VirtualRelvar}
+use Rattle.td_catalog.specs.model.Dumps.{base_line, condition_text, constraint_line, line_end, type_line, virtual_line}
+use Rattle.td_engine.specs.laws.Rebuilding.{base_statement, constraint_statement, type_statement, virtual_statement}
+use Rattle.td_engine.specs.model.Legality.{IsSpelledExpression, IsSpelledIf}
 use Rattle.td_tree.specs.declared.keyword.Keyword.{Keyword}
 use Rattle.td_tree.specs.declared.keyword.Keyword.TheVariants as k
 use Rattle.td_tree.specs.declared.token.Sign.TheVariants as signs
-use Rattle.td_tree.specs.Grammar.{height_limit}
-use Rattle.td_tree.specs.Heights.{attributes_height, type_height}
-use Rattle.td_tree.specs.Keywords.{word_of}
-use Rattle.td_tree.specs.Lexemes.{Lexeme, keyword, sign}
-use Rattle.td_tree.specs.Lexemes as lexeme
-use Rattle.td_tree.specs.Lists.{Optional, absent, with_braces, with_parentheses, present}
-use Rattle.td_tree.specs.Names.{IsName}
-use Rattle.td_tree.specs.Prints.{attribute_lexemes, commas, heading_lexemes, lexemes_of}
-use Rattle.td_tree.specs.StatementGrammar.{BodySpelling, ConstraintPart, base_definition, base_word, constraint_definition, constraint_part, init_part, type_definition, virtual_definition}
-use Rattle.td_tree.specs.Trees.{Statement, Tree, relation_type}
+use Rattle.td_tree.specs.model.Grammar.{height_limit}
+use Rattle.td_tree.specs.model.Heights.{attributes_height, type_height}
+use Rattle.td_tree.specs.model.Keywords.{word_of}
+use Rattle.td_tree.specs.model.Lexemes.{Lexeme, keyword, sign}
+use Rattle.td_tree.specs.model.Lexemes as lexeme
+use Rattle.td_tree.specs.model.Lists.{Optional, absent, with_braces, with_parentheses, present}
+use Rattle.td_tree.specs.model.Names.{IsName}
+use Rattle.td_tree.specs.model.Prints.{attribute_lexemes, commas, heading_lexemes, lexemes_of}
+use Rattle.td_tree.specs.model.StatementGrammar.{BodySpelling, ConstraintPart, base_definition, base_word, constraint_definition, constraint_part, init_part, type_definition, virtual_definition}
+use Rattle.td_tree.specs.model.Trees.{Statement, Tree, relation_type}
 use Rattle.td_tree.proofs.law_lemmas.OwnSpellings.{heading_spelled}
-use Rattle.td_types.specs.TypeLists.{DeclaredType}
-use Rattle.td_types.specs.TypeTrees.{attribute_trees}
-use Rattle.td_types.specs.Types.{IsHeading, attribute_names, pack, relation}
-use Rattle.td_value.specs.LiteralTrees.{literal_tree}
-use Rattle.td_value.specs.Literal.{literal}
-use Rattle.td_value.specs.Values.{IsValue, Val, relation_value}
+use Rattle.td_types.specs.model.TypeLists.{DeclaredType}
+use Rattle.td_types.specs.laws.TypeTrees.{attribute_trees}
+use Rattle.td_types.specs.model.Types.{IsHeading, attribute_names, pack, relation}
+use Rattle.td_value.specs.laws.LiteralTrees.{literal_tree}
+use Rattle.td_value.specs.model.Literal.{literal}
+use Rattle.td_value.specs.model.Values.{IsValue, Val, relation_value}
 use Rattle.td_value.proofs.LiteralSpellings.{value_seen}
 use Rattle.td_engine.proofs.law_lemmas.DumpInner.{AllInner, also, attributes_inner, commas_inner, in_braces, in_parentheses, join, none_left, tree_inner}
 use Rattle.td_engine.proofs.law_lemmas.DumpLists.{AreTypedNames, components_show, components_spelled, keys_inner, keys_lexemes, keys_show, keys_spelled}

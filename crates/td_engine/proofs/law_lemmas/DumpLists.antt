@@ -1,24 +1,24 @@
 -- The lists in a dump's lines: components with their types, and the names of keys. The grammar sees them as what spells them.
 use Rattle.std.proofs.Common.{◌≡◌, List, [], ◌∷◌, ◌++◌, refl, sym, subst, append-nil, Bool, true, false, cond, filter, map}
 use Rattle.std.specs.List.{AllByRecursion, flat_map}
-use Rattle.td_catalog.specs.Dumps.{ordered_names, key_text, keys_text, names_text}
+use Rattle.td_catalog.specs.model.Dumps.{ordered_names, key_text, keys_text, names_text}
 use Rattle.td_tree.specs.declared.keyword.Keyword.TheVariants as k
-use Rattle.td_tree.specs.Grammar as g
-use Rattle.td_tree.specs.Grammar.{AttributesSpelling, NameSpelling, NamesSpelling, name_item}
-use Rattle.td_tree.specs.Lexemes.{Lexeme, keyword}
-use Rattle.td_tree.specs.Lexemes as lexeme
-use Rattle.td_tree.specs.Lists.{Repeated, Separated, with_braces, next_item, no_items, no_more, one_item, one_more, some_items}
-use Rattle.td_tree.specs.Names.{IsName}
-use Rattle.td_tree.specs.Prints.{attribute_lexemes, commas, following, name_lexemes, type_lexemes}
-use Rattle.td_tree.specs.StatementGrammar.{KeyPart, key_part}
-use Rattle.td_tree.specs.Trees.{AttributeTrees, Text, TypeTree}
-use Rattle.td_tree.specs.Trees as trees
+use Rattle.td_tree.specs.model.Grammar as g
+use Rattle.td_tree.specs.model.Grammar.{AttributesSpelling, NameSpelling, NamesSpelling, name_item}
+use Rattle.td_tree.specs.model.Lexemes.{Lexeme, keyword}
+use Rattle.td_tree.specs.model.Lexemes as lexeme
+use Rattle.td_tree.specs.model.Lists.{Repeated, Separated, with_braces, next_item, no_items, no_more, one_item, one_more, some_items}
+use Rattle.td_tree.specs.model.Names.{IsName}
+use Rattle.td_tree.specs.model.Prints.{attribute_lexemes, commas, following, name_lexemes, type_lexemes}
+use Rattle.td_tree.specs.model.StatementGrammar.{KeyPart, key_part}
+use Rattle.td_tree.specs.model.Trees.{AttributeTrees, Text, TypeTree}
+use Rattle.td_tree.specs.model.Trees as trees
 use Rattle.td_tree.specs.code.Written.{comma_lexeme_if}
 use Rattle.td_tree.proofs.law_lemmas.OwnSpellings.{items_after, items_first, items_follow, type_spelled}
-use Rattle.td_types.specs.Headings.{has_name}
-use Rattle.td_types.specs.Texts.{attributes_text}
-use Rattle.td_types.specs.Types.{Attribute, Heading, IsType, attribute_names, pack}
-use Rattle.td_types.specs.TypeTrees.{attribute_trees, type_tree}
+use Rattle.td_types.specs.model.Headings.{has_name}
+use Rattle.td_types.specs.model.Texts.{attributes_text}
+use Rattle.td_types.specs.model.Types.{Attribute, Heading, IsType, attribute_names, pack}
+use Rattle.td_types.specs.laws.TypeTrees.{attribute_trees, type_tree}
 use Rattle.td_types.proofs.TypeSpellings.{attributes_bounded}
 use Rattle.td_engine.proofs.law_lemmas.DumpInner.{AllInner, also, commas_inner, in_braces, join, names_inner, none_left}
 use Rattle.td_engine.proofs.law_lemmas.DumpPhrases.{KeepsBounds, Shows, ShowsBefore, a_close_brace, a_comma_if, a_name, a_space, a_type, a_word_and_space, an_open_brace, anywhere, before_then, before_then_before, nothing, shown_then, shown_then_before, shows_these}

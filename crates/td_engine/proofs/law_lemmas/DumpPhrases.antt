@@ -6,24 +6,24 @@ use Rattle.std.specs.List.{list_all}
 use Rattle.std.specs.Str.{is_utf8}
 use Rattle.std.proofs.lemmas.Str.{IsUtf8-from_is_utf8}
 use lib.Pointwise.{pointwise}
-use Rattle.td_engine.specs.Legality.{IsSpelledExpression}
+use Rattle.td_engine.specs.model.Legality.{IsSpelledExpression}
 use Rattle.td_tree.specs.declared.keyword.Keyword.{Keyword}
 use Rattle.td_tree.specs.declared.token.Kind.{Kind}
 use Rattle.td_tree.specs.declared.token.Kind.TheVariants as kinds
 use Rattle.td_tree.specs.declared.token.Sign.TheVariants as signs
-use Rattle.td_tree.specs.Grammar.{loosest}
-use Rattle.td_tree.specs.Keywords.{word_of}
-use Rattle.td_tree.specs.Lexemes.{Lexeme, keyword, printed_text, sign, spaced_text}
-use Rattle.td_tree.specs.Lexemes as lexeme
-use Rattle.td_tree.specs.Names.{IsName, is_name}
-use Rattle.td_tree.specs.Numbers.{decimal_value}
-use Rattle.td_tree.specs.Pieces.{goes_on, opens}
-use Rattle.td_tree.specs.Prints.{lexemes_of, print, type_lexemes}
-use Rattle.td_tree.specs.Statements.{PlacedToken}
-use Rattle.td_tree.specs.StatementGrammar.{ExpressionItem}
-use Rattle.td_tree.specs.TextTokens.{content, text_in_quotes}
-use Rattle.td_tree.specs.TokenLexemes.{is_quoted_text, is_the_word, lexeme_of, lexemes}
-use Rattle.td_tree.specs.Trees.{Tree}
+use Rattle.td_tree.specs.model.Grammar.{loosest}
+use Rattle.td_tree.specs.model.Keywords.{word_of}
+use Rattle.td_tree.specs.model.Lexemes.{Lexeme, keyword, printed_text, sign, spaced_text}
+use Rattle.td_tree.specs.model.Lexemes as lexeme
+use Rattle.td_tree.specs.model.Names.{IsName, is_name}
+use Rattle.td_tree.specs.model.Numbers.{decimal_value}
+use Rattle.td_tree.specs.model.Pieces.{goes_on, opens}
+use Rattle.td_tree.specs.model.Prints.{lexemes_of, print, type_lexemes}
+use Rattle.td_tree.specs.model.Statements.{PlacedToken}
+use Rattle.td_tree.specs.model.StatementGrammar.{ExpressionItem}
+use Rattle.td_tree.specs.model.TextTokens.{content, text_in_quotes}
+use Rattle.td_tree.specs.model.TokenLexemes.{is_quoted_text, is_the_word, lexeme_of, lexemes}
+use Rattle.td_tree.specs.model.Trees.{Tree}
 use Rattle.td_tree.specs.code.Written.{comma_lexeme_if}
 use Rattle.td_tree.proofs.law_lemmas.ApartLaws.{ends_alone, next_token}
 use Rattle.td_tree.proofs.law_lemmas.Boundaries.{IsBounded}
@@ -33,9 +33,9 @@ use Rattle.td_tree.proofs.law_lemmas.PrintLaws.{IsProper, own_lexemes}
 use Rattle.td_tree.proofs.law_lemmas.SeenLaws as seen_laws
 use Rattle.td_tree.proofs.law_lemmas.SeenLaws.{IsSeen, lexeme_seen, seen_same, space_seen}
 use Rattle.td_tree.proofs.law_lemmas.TheWords.{behind_the}
-use Rattle.td_types.specs.Texts.{comma_if, type_text}
-use Rattle.td_types.specs.Types.{IsType, Type'}
-use Rattle.td_types.specs.TypeTrees.{type_tree}
+use Rattle.td_types.specs.model.Texts.{comma_if, type_text}
+use Rattle.td_types.specs.model.Types.{IsType, Type'}
+use Rattle.td_types.specs.laws.TypeTrees.{type_tree}
 use Rattle.td_types.proofs.TypeSpellings.{comma_if_seen, type_seen}
 
 -- the grammar sees these bytes as these lexemes, whatever follows them

@@ -1,22 +1,22 @@
 -- The tokens of the dump of a legal database are read as the statements of its lines.
 use Rattle.std.proofs.Common.{◌≡◌, ℕ, List, [], ◌∷◌, ◌++◌, ap, append-nil, append_assoc, map, refl, subst}
 use Rattle.std.specs.List.{AllByRecursion, flat_map}
-use Rattle.td_catalog.specs.Database.{BaseRelvar, Database, NamedConstraint, VirtualRelvar, database_scope}
-use Rattle.td_catalog.specs.Dumps.{base_line, constraint_line, dump_text, type_line, virtual_line}
-use Rattle.td_catalog.specs.TypedDatabases.{IsTypedBase}
+use Rattle.td_catalog.specs.model.Database.{BaseRelvar, Database, NamedConstraint, VirtualRelvar, database_scope}
+use Rattle.td_catalog.specs.model.Dumps.{base_line, constraint_line, dump_text, type_line, virtual_line}
+use Rattle.td_catalog.specs.model.TypedDatabases.{IsTypedBase}
 use Rattle.td_check.proofs.StaticLaws.{types_are_known}
-use Rattle.td_engine.specs.Rebuilding.{DumpsAreRead, base_statement, constraint_statement, dump_statements, type_statement, virtual_statement}
-use Rattle.td_engine.specs.Legality.{IsRuledBase, IsLegal, IsSpelledExpression, IsSpelledIf}
+use Rattle.td_engine.specs.laws.Rebuilding.{DumpsAreRead, base_statement, constraint_statement, dump_statements, type_statement, virtual_statement}
+use Rattle.td_engine.specs.model.Legality.{IsRuledBase, IsLegal, IsSpelledExpression, IsSpelledIf}
 use Rattle.td_eval.proofs.law_lemmas.KnownRelvars.{fronted}
 use Rattle.td_eval.proofs.law_lemmas.TypedDatabases.{all_at, fronts_keep}
-use Rattle.td_tree.specs.Names.{IsName}
-use Rattle.td_tree.specs.Trees.{Statement}
-use Rattle.td_types.specs.TypeLists.{DeclaredType}
-use Rattle.td_types.specs.Types.{IsHeading, pack, relation}
+use Rattle.td_tree.specs.model.Names.{IsName}
+use Rattle.td_tree.specs.model.Trees.{Statement}
+use Rattle.td_types.specs.model.TypeLists.{DeclaredType}
+use Rattle.td_types.specs.model.Types.{IsHeading, pack, relation}
 use Rattle.td_engine.proofs.law_lemmas.DumpFacts.{components_low, heading_is_low, heading_names, literal_spelled, typed_names}
 use Rattle.td_engine.proofs.law_lemmas.DumpLines.{IsLine, base_line_is, constraint_line_is, type_line_is, virtual_line_is}
 use Rattle.td_engine.proofs.law_lemmas.DumpScript.{IsScript, lines_first, no_line, script_reads}
-use Rattle.td_tree.specs.WrittenTrees.{IsWritten}
+use Rattle.td_tree.specs.model.WrittenTrees.{IsWritten}
 
 -- ---- lists
 

@@ -2,11 +2,11 @@
 use Rattle.std.proofs.Common.{ℕ, List, [], ◌∷◌, ◌++◌, append_assoc, map, refl, subst, sym}
 use Rattle.std.specs.List.{AllByRecursion, flat_map}
 use Rattle.td_tree.specs.declared.token.Sign.TheVariants as signs
-use Rattle.td_tree.specs.Lexemes.{Lexeme, sign}
-use Rattle.td_tree.specs.Statements.{statements, tokens}
-use Rattle.td_tree.specs.Trees.{Statement}
+use Rattle.td_tree.specs.model.Lexemes.{Lexeme, sign}
+use Rattle.td_tree.specs.model.Statements.{statements, tokens}
+use Rattle.td_tree.specs.model.Trees.{Statement}
 use Rattle.td_tree.proofs.law_lemmas.SeenLaws.{IsSeen, nothing_seen, seen_same}
-use Rattle.td_engine.specs.Rebuilding.{AreReadAs}
+use Rattle.td_engine.specs.laws.Rebuilding.{AreReadAs}
 use Rattle.td_engine.proofs.law_lemmas.DumpLines.{IsLine}
 use Rattle.td_engine.proofs.law_lemmas.DumpSplit.{AreScripted, no_statement, one_statement, split_reads}
 

@@ -4,21 +4,21 @@ use Rattle.std.specs.Prelude.{◌||◌, if◌then◌else◌}
 use Rattle.std.specs.Char.{is_ascii_digit}
 use Rattle.std.specs.List.{list_all}
 use Rattle.std.specs.Str.{is_utf8}
-use Rattle.td_engine.specs.Rebuilding.{AreReadAs}
-use Rattle.td_parse.specs.code.Parsing.{has_bad, is_bad}
+use Rattle.td_engine.specs.laws.Rebuilding.{AreReadAs}
+use Rattle.td_parse.specs.model.Meanings.{has_bad, is_bad}
 use Rattle.td_tree.specs.declared.token.Kind.{Kind}
 use Rattle.td_tree.specs.declared.token.Kind.TheVariants as kinds
 use Rattle.td_tree.specs.declared.token.Sign.{Sign}
 use Rattle.td_tree.specs.declared.token.Sign.TheVariants as signs
-use Rattle.td_tree.specs.Lexemes.{Lexeme, sign}
-use Rattle.td_tree.specs.Lexemes as lexeme
-use Rattle.td_tree.specs.Names.{is_name}
-use Rattle.td_tree.specs.Numbers.{decimal_value}
-use Rattle.td_tree.specs.StatementGrammar.{BodySpelling, StatementSpelling, statement}
-use Rattle.td_tree.specs.Statements.{PlacedToken, ends, is_end, put, split}
-use Rattle.td_tree.specs.TextTokens.{content}
-use Rattle.td_tree.specs.TokenLexemes.{is_quoted_text, is_the_word, lexeme_of, lexemes}
-use Rattle.td_tree.specs.Trees.{Statement}
+use Rattle.td_tree.specs.model.Lexemes.{Lexeme, sign}
+use Rattle.td_tree.specs.model.Lexemes as lexeme
+use Rattle.td_tree.specs.model.Names.{is_name}
+use Rattle.td_tree.specs.model.Numbers.{decimal_value}
+use Rattle.td_tree.specs.model.StatementGrammar.{BodySpelling, StatementSpelling, statement}
+use Rattle.td_tree.specs.model.Statements.{PlacedToken, ends, is_end, put, split}
+use Rattle.td_tree.specs.model.TextTokens.{content}
+use Rattle.td_tree.specs.model.TokenLexemes.{is_quoted_text, is_the_word, lexeme_of, lexemes}
+use Rattle.td_tree.specs.model.Trees.{Statement}
 use Rattle.td_engine.proofs.law_lemmas.DumpInner.{AllInner, IsInner, also, none_left}
 
 -- ---- one token

@@ -3,7 +3,7 @@ use Rattle.std.proofs.Common.{◌≡◌, ◌∙◌, ◌∷◌, ◌++◌, ℕ, ze
 use Rattle.std.specs.Prelude.{◌||◌, if◌then◌else◌}
 use Rattle.std.specs.List.{AllByRecursion, find, list_any, slice_get}
 use Rattle.std.specs.Set.{remove_key}
-use Rattle.td_catalog.specs.TypedDatabases.{EachAfter}
+use Rattle.td_catalog.specs.model.TypedDatabases.{EachAfter}
 
 module _ {A : Type 0} where
   -- one more

@@ -1,10 +1,10 @@
 -- What an accepted statement changed, and that the checks that follow its change were passed.
 use Rattle.std.proofs.Common.{◌≡◌, ℕ, List, Option, Some, None, refl}
-use Rattle.td_catalog.specs.Database.{Database}
-use Rattle.td_engine.specs.Checks.{database_check}
-use Rattle.td_engine.specs.Machine.{Effect, Accepted, by_outcome, checked_effect, unchecked_effect, unless_refused}
-use Rattle.td_engine.specs.Refusals.{Refusal}
-use Rattle.td_tree.specs.Outcomes.{Outcome, Valued, Refused}
+use Rattle.td_catalog.specs.model.Database.{Database}
+use Rattle.td_engine.specs.model.Checks.{database_check}
+use Rattle.td_engine.specs.model.Machine.{Effect, Accepted, by_outcome, checked_effect, unchecked_effect, unless_refused}
+use Rattle.td_engine.specs.model.Refusals.{Refusal}
+use Rattle.td_tree.specs.model.Outcomes.{Outcome, Valued, Refused}
 
 -- an effect that is accepted tells the database
 pub accepted_is : (db new : Database) (t u : List ℕ) → Accepted db t ≡ Accepted new u → db ≡ new

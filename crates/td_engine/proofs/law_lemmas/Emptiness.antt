@@ -4,21 +4,21 @@ use Rattle.std.proofs.lemmas.Bool.{eqb-true}
 use Rattle.std.specs.Prelude.{◌↔◌, cond, nat_eq}
 use Rattle.std.specs.List.{Contains}
 use Rattle.td_algebra.proofs.Lists.{contains_cases, contains_filter, contains_first, contains_later, contains_none}
-use Rattle.td_algebra.specs.Operators.{difference, restriction}
-use Rattle.td_body.specs.Bodies.{after_change}
-use Rattle.td_engine.specs.Additions.{EmptinessIsOfAdditions, emptiness}
-use Rattle.td_engine.specs.Checks.{refusal_unless_passed}
-use Rattle.td_engine.specs.Refusals.{Refusal, by_cause}
+use Rattle.td_algebra.specs.model.Operators.{difference, restriction}
+use Rattle.td_body.specs.model.Bodies.{after_change}
+use Rattle.td_engine.specs.laws.Additions.{EmptinessIsOfAdditions, emptiness}
+use Rattle.td_engine.specs.model.Checks.{refusal_unless_passed}
+use Rattle.td_engine.specs.model.Refusals.{Refusal, by_cause}
 use Rattle.td_eval.proofs.code_lemmas.OpValues.{relation_unpacked}
 use Rattle.td_eval.proofs.law_lemmas.TupleOrder.{Refuses, one_least, one_order}
-use Rattle.td_eval.specs.OperatorValues.{is_true, measure_value, of_relation, of_truth, truth_value}
+use Rattle.td_eval.specs.model.OperatorValues.{is_true, measure_value, of_relation, of_truth, truth_value}
 use Rattle.td_tree.proofs.law_lemmas.LeastCauses.{least_is_named}
 use Rattle.td_tree.specs.declared.cause.Cause.{Cause}
 use Rattle.td_tree.specs.declared.operator.Measure.TheVariants as measures
-use Rattle.td_tree.specs.Outcomes.{Outcome, Valued, Refused, gathered, least, with_both, with_value}
+use Rattle.td_tree.specs.model.Outcomes.{Outcome, Valued, Refused, gathered, least, with_both, with_value}
 use Rattle.td_value.proofs.Members.{joined_members, set_members}
-use Rattle.td_value.specs.Sets.{has}
-use Rattle.td_value.specs.Values.{HaveSameMembers, Relation, Tuple, Val, boolean, char, integer, relation, tuple, tuple_cmp, user}
+use Rattle.td_value.specs.model.Sets.{has}
+use Rattle.td_value.specs.model.Values.{HaveSameMembers, Relation, Tuple, Val, boolean, char, integer, relation, tuple, tuple_cmp, user}
 
 -- ---- a test by causes and by the tuples that are kept
 
@@ -53,7 +53,7 @@ not_empty t ts = by_test (nat_eq (length (t ∷ ts)) 0) refl
     by_test false e = refl
 
 -- of lists with the same members none or both are empty
-both_empty : (ts us : List Tuple) → HaveSameMembers ts us → nat_eq (length ts) 0 ≡ nat_eq (length us) 0
+pub both_empty : (ts us : List Tuple) → HaveSameMembers ts us → nat_eq (length ts) 0 ≡ nat_eq (length us) 0
 both_empty [] [] same = refl
 both_empty [] (u ∷ us) same = absurd (contains_none u ((same u).1 (contains_first u us)))
 both_empty (t ∷ ts) [] same = absurd (contains_none t ((same t).0 (contains_first t ts)))
@@ -124,12 +124,12 @@ no_causes f (t ∷ ts) us c h =
 
 module _ (f g : Tuple → Outcome Val) where
   -- it has the same truth values
-  same_truths : (ts : List Tuple) → ((t : Tuple) → Contains ts t → f t ≡ g t) → truths_in f ts ≡ truths_in g ts
+  pub same_truths : (ts : List Tuple) → ((t : Tuple) → Contains ts t → f t ≡ g t) → truths_in f ts ≡ truths_in g ts
   same_truths [] h = refl
   same_truths (t ∷ ts) h = λ i. truth_value (h t (contains_first t ts) i) ∷ same_truths ts (λ u c. h u (contains_later t ts u c)) i
 
   -- it is met in the same tuples
-  same_met : (ts : List Tuple) → ((t : Tuple) → Contains ts t → f t ≡ g t) → met_in f ts ≡ met_in g ts
+  pub same_met : (ts : List Tuple) → ((t : Tuple) → Contains ts t → f t ≡ g t) → met_in f ts ≡ met_in g ts
   same_met [] h = refl
   same_met (t ∷ ts) h =
       let rest = same_met ts (λ u c. h u (contains_later t ts u c)) in

@@ -3,30 +3,29 @@ use Rattle.std.proofs.Common.{◌≡◌, ◌∷◌, ℕ, Bool, true, false, List
 use Rattle.std.specs.Prelude.{if◌then◌else◌}
 use Rattle.std.specs.List.{AllByRecursion}
 use Rattle.std.specs.Option.{option_or}
-use Rattle.td_algebra.specs.Operators.{difference, union}
-use Rattle.td_catalog.specs.Database.{BaseRelvar, Database, base_named, base_relvar}
-use Rattle.td_check.specs.OperatorTypes.{known_or, same_heading}
-use Rattle.td_engine.specs.Assignments.{Given, assignment_value, chosen_for, current, given_by, given_to, of_heading, relation_for, setting_attributes, setting_names, source_world, target_of, updated_relation, with_assignment, with_gift, with_given, combined_with, without_deleted}
-use Rattle.td_engine.specs.Machine.{init_relation}
+use Rattle.td_algebra.specs.model.Operators.{difference, union}
+use Rattle.td_catalog.specs.model.Database.{BaseRelvar, Database, base_named, base_relvar}
+use Rattle.td_check.specs.model.OperatorTypes.{known_or, same_heading}
+use Rattle.td_engine.specs.model.Assignments.{Given, assignment_value, chosen_for, current, given_by, given_to, of_heading, relation_for, setting_attributes, setting_names, source_world, target_of, updated_relation, with_assignment, with_assigned, with_given, combined_with, without_deleted}
+use Rattle.td_engine.specs.model.Machine.{init_relation}
 use Rattle.td_engine.proofs.law_lemmas.EachOf.{all_mapped, of_found}
 use Rattle.td_eval.proofs.law_lemmas.MetAssignments.{assigned_relations_meet_constraints}
 use Rattle.td_eval.proofs.law_lemmas.MetWorlds.{values_meet_constraints}
-use Rattle.td_eval.specs.DatabaseWorlds.{world_of}
-use Rattle.td_eval.specs.LiteralValues.{MeetConstraint, MeetsConstraints}
-use Rattle.td_eval.specs.MetConstraints.{EachInValues, GivesOnly}
-use Rattle.td_eval.specs.OperatorValues.{on_relation, set_value}
-use Rattle.td_eval.specs.TreeValues.{value_of, values_in_tuples}
-use Rattle.td_eval.specs.Worlds.{World}
-use Rattle.td_tree.specs.Outcomes.{Outcome, Valued}
-use Rattle.td_tree.specs.Trees.{Tree, name, parentheses, Assignment, assign, insert, disjoint_insert, delete, included_delete, update, restriction}
+use Rattle.td_eval.specs.model.DatabaseWorlds.{world_of}
+use Rattle.td_eval.specs.model.MetConstraints.{MeetConstraint, MeetsConstraints}
+use Rattle.td_eval.specs.laws.MetConstraintLaws.{EachInValues, GivesOnly}
+use Rattle.td_eval.specs.model.OperatorValues.{on_relation, set_value}
+use Rattle.td_eval.specs.model.TreeValues.{value_of, values_in_tuples}
+use Rattle.td_eval.specs.model.Worlds.{World}
+use Rattle.td_tree.specs.model.Outcomes.{Outcome, Valued}
+use Rattle.td_tree.specs.model.Trees.{Tree, name, parentheses, Assignment, assign, insert, disjoint_insert, delete, included_delete, update, restriction}
 use Rattle.td_tree.specs.declared.cause.Cause.TheVariants as causes
 use Rattle.td_tree.specs.declared.operator.Operator.TheVariants as operators
 use Rattle.td_types.proofs.OutcomeLaws.{value_of_test, value_of_with, valued_is}
-use Rattle.td_types.specs.TypeLists.{DeclaredType}
-use Rattle.td_types.specs.Types.{Heading, same_name, unpack}
-use Rattle.td_value.specs.Sets.{has}
-use Rattle.td_value.specs.Values.{Val, boolean, integer, char, relation_value, user, tuple, relation, Relation, Tuple, tuple_cmp, unpack_rows}
-use Rattle.td_value.specs.code.Views.{relation_view}
+use Rattle.td_types.specs.model.TypeLists.{DeclaredType}
+use Rattle.td_types.specs.model.Types.{Heading, same_name, unpack}
+use Rattle.td_value.specs.model.Sets.{has}
+use Rattle.td_value.specs.model.Values.{Val, boolean, integer, char, relation_value, user, tuple, relation, Relation, Tuple, tuple_cmp, unpack_rows, relation_view}
 
 -- the user values in a relation meet the constraints of these types
 abbrev pub Meets : List DeclaredType → Relation → Type 0
@@ -157,8 +156,8 @@ module _ (ds : List DeclaredType) where
         all_given_meet next.0 done rest (one_given given next.0 a h next.1) next.2
 
   -- a base relvar with what it was given
-  gift_meets : (given : Given) → AreMet given → (b : BaseRelvar) → Meets ds b.relation → Meets ds (with_gift given b).relation
-  gift_meets given h b met = by_given (given_to b.name given) (λ q. given_met b.name given q h)
+  assigned_value_meets : (given : Given) → AreMet given → (b : BaseRelvar) → Meets ds b.relation → Meets ds (with_assigned given b).relation
+  assigned_value_meets given h b met = by_given (given_to b.name given) (λ q. given_met b.name given q h)
     where
       by_given : (o : Option Relation) → ((q : Relation) → o ≡ Some q → Meets ds q)
           → Meets ds (elim o as (λ _. BaseRelvar) [ Some r ↦ base_relvar b.name b.keys r | None ↦ b ]).relation
@@ -166,9 +165,9 @@ module _ (ds : List DeclaredType) where
       by_given None k = met
 
   -- the base relvars with what they were given
-  pub gifts_meet : (given : Given) → AreMet given → (bases : List BaseRelvar) → HoldMet bases → HoldMet (map (with_gift given) bases)
-  gifts_meet given h =
-      all_mapped (λ (b : BaseRelvar). Meets ds b.relation) (λ (b : BaseRelvar). Meets ds b.relation) (with_gift given) (gift_meets given h)
+  pub all_assigned_meet : (given : Given) → AreMet given → (bases : List BaseRelvar) → HoldMet bases → HoldMet (map (with_assigned given) bases)
+  all_assigned_meet given h =
+      all_mapped (λ (b : BaseRelvar). Meets ds b.relation) (λ (b : BaseRelvar). Meets ds b.relation) (with_assigned given) (assigned_value_meets given h)
 
 -- ---- INIT
 

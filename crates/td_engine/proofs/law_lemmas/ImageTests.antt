@@ -3,22 +3,22 @@ use Rattle.std.proofs.Common.{◌≡◌, ◌⊎◌, inl, inr, Bool, true, false,
 use Rattle.std.specs.List.{Contains, list_all}
 use Rattle.td_algebra.proofs.Lists.{contains_cases, contains_filter, contains_first, contains_later, contains_map, contains_none}
 use Rattle.td_algebra.proofs.Members.{both_true, first_true, second_true}
-use Rattle.td_algebra.specs.Operators.{difference}
-use Rattle.td_body.specs.Bodies.{after_change}
-use Rattle.td_engine.specs.Additions.{ImageTestsAreOfAdditions, images_pass}
+use Rattle.td_algebra.specs.model.Operators.{difference}
+use Rattle.td_body.specs.model.Bodies.{after_change}
+use Rattle.td_engine.specs.laws.Additions.{ImageTestsAreOfAdditions, images_pass}
 use Rattle.td_value.proofs.Members.{joined_members}
-use Rattle.td_value.specs.Sets.{has}
-use Rattle.td_value.specs.Values.{HaveSameMembers, Tuple, tuple_cmp}
+use Rattle.td_value.specs.model.Sets.{has}
+use Rattle.td_value.specs.model.Values.{Tuple, tuple_cmp}
 
 -- two tests of which each implies the other are one
-one_test : (a b : Bool) → (a ≡ true → b ≡ true) → (b ≡ true → a ≡ true) → a ≡ b
+pub one_test : (a b : Bool) → (a ≡ true → b ≡ true) → (b ≡ true → a ≡ true) → a ≡ b
 one_test true b f g = sym (f refl)
 one_test false true f g = g refl
 one_test false false f g = refl
 
 module _ (test : Tuple → Bool) where
   -- a test holds of all of a list exactly where it holds of what the list contains
-  tested : (ts : List Tuple) → list_all test ts ≡ true → (t : Tuple) → Contains ts t → test t ≡ true
+  pub tested : (ts : List Tuple) → list_all test ts ≡ true → (t : Tuple) → Contains ts t → test t ≡ true
   tested [] e t c = absurd (contains_none t c)
   tested (u ∷ us) e t c =
       by_case (first_true (test u) (list_all test us) e) (tested us (second_true (test u) (list_all test us) e) t) (contains_cases u us t c)
@@ -27,15 +27,9 @@ module _ (test : Tuple → Bool) where
       by_case first rest (inl is) = subst (λ s. test s ≡ true) is first
       by_case first rest (inr there) = rest there
 
-  tests : (ts : List Tuple) → ((t : Tuple) → Contains ts t → test t ≡ true) → list_all test ts ≡ true
+  pub tests : (ts : List Tuple) → ((t : Tuple) → Contains ts t → test t ≡ true) → list_all test ts ≡ true
   tests [] h = refl
   tests (t ∷ ts) h = both_true (test t) (list_all test ts) (h t (contains_first t ts)) (tests ts (λ u c. h u (contains_later t ts u c)))
-
-  -- it is the same of lists with the same members
-  pub passed_alike : (ts us : List Tuple) → HaveSameMembers ts us → list_all test ts ≡ list_all test us
-  passed_alike ts us same =
-      one_test (list_all test ts) (list_all test us) (λ e. tests us (λ t c. tested ts e t ((same t).1 c)))
-      (λ e. tests ts (λ t c. tested us e t ((same t).0 c)))
 
   -- the images of the tuples of a list pass the test
   abbrev HavePassed : (Tuple → Tuple) → List Tuple → Type 0

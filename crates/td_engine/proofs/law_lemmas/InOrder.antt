@@ -3,8 +3,8 @@ use Rattle.std.proofs.Common.{◌≡◌, ◌∙◌, ◌∷◌, ◌+◌, ℕ, zer
 use Rattle.std.specs.List.{slice_get}
 use Rattle.std.specs.Option.{option_or}
 use Rattle.td_engine.specs.code.Carried.{Passes, refusal_view}
-use Rattle.td_engine.specs.Checks.{first_refusal}
-use Rattle.td_engine.specs.Refusals.{Refusal}
+use Rattle.td_engine.specs.model.Checks.{first_refusal}
+use Rattle.td_engine.specs.model.Refusals.{Refusal}
 use Rattle.td_engine.specs.declared.refusal.Failure.{Failure}
 use Rattle.td_engine.specs.declared.refusal.Failure.TheVariants as failures
 

@@ -1,7 +1,7 @@
 -- A refused statement keeps the state.
 use Rattle.std.proofs.Common.{◌≡◌, ◌≢◌, List, None, refl, sym, subst}
-use Rattle.td_engine.specs.Machine.{Accepted, Denied, Effect, State, Step, Steps, by_outcome, effect_in, step_of}
-use Rattle.td_tree.specs.Statements.{PlacedToken}
+use Rattle.td_engine.specs.model.Machine.{Accepted, Denied, Effect, State, Step, Steps, by_outcome, effect_in, step_of}
+use Rattle.td_tree.specs.model.Statements.{PlacedToken}
 
 -- the step has no cause, or the state is the same
 abbrev Keeps : State → Step State → Type 0

@@ -3,38 +3,38 @@ use Rattle.std.proofs.Common.{◌≡◌, ◌∙◌, ◌∷◌, ◌++◌, ℕ, Bo
 use Rattle.std.specs.List.{AllByRecursion}
 use Rattle.td_catalog.proofs.EntriesLess.{drops_keep}
 use Rattle.td_catalog.proofs.Lists.{not_true}
-use Rattle.td_catalog.specs.Database.{BaseRelvar, Database, base_relvar, database_scope, knows_relvar, named_constraint, virtual_relvar, with_base, with_constraint, with_declared, with_virtual, without_constraint, without_relvar, without_type}
-use Rattle.td_catalog.specs.Dumps.{dump_text, ordered_names}
-use Rattle.td_catalog.specs.Mentioned.{constraint_droppable, is_relvar_in_use, is_type_in_use, relvar_droppable, type_droppable, drop_outcome}
-use Rattle.td_check.specs.OperatorTypes.{over_relation}
-use Rattle.td_check.specs.StatementTypes.{components_meant, holds_or, statement_checked}
-use Rattle.td_check.specs.StaticTypes.{type_of}
+use Rattle.td_catalog.specs.model.Database.{BaseRelvar, Database, base_relvar, database_scope, knows_relvar, named_constraint, virtual_relvar, with_base, with_constraint, with_declared, with_virtual, without_constraint, without_relvar, without_type}
+use Rattle.td_catalog.specs.model.Dumps.{dump_text, ordered_names}
+use Rattle.td_catalog.specs.model.Mentioned.{constraint_droppable, is_relvar_in_use, is_type_in_use, relvar_droppable, type_droppable, drop_outcome}
+use Rattle.td_check.specs.model.OperatorTypes.{over_relation}
+use Rattle.td_check.specs.model.StatementTypes.{components_meant, holds_or, statement_checked}
+use Rattle.td_check.specs.model.StaticTypes.{type_of}
 use Rattle.td_engine.proofs.law_lemmas.Effects.{accepted_is, changed_to, dropped_to, followed}
 use Rattle.td_engine.proofs.law_lemmas.GivenRelations.{init_meets}
 use Rattle.td_engine.proofs.law_lemmas.OrderedKeys.{keys_stay}
 use Rattle.td_engine.proofs.law_lemmas.PassedChecks.{all_pass, neither_there, passed, passed_test}
-use Rattle.td_engine.proofs.law_lemmas.LegalChanges.{legal_with_base, legal_with_constraint, legal_with_gifts, legal_with_type, legal_with_virtual, legal_without_constraint, legal_without_relvar, legal_without_type, world_gives}
+use Rattle.td_engine.proofs.law_lemmas.LegalChanges.{legal_with_base, legal_with_constraint, legal_with_all_assigned, legal_with_type, legal_with_virtual, legal_without_constraint, legal_without_relvar, legal_without_type, world_gives}
 use Rattle.td_engine.proofs.law_lemmas.SpelledParts.{constraint_spelled, type_spelled, virtual_spelled}
-use Rattle.td_engine.proofs.law_lemmas.TypedAfter.{base_after, constraint_after, gifts_ruled, gifts_typed, type_after, virtual_after}
-use Rattle.td_engine.proofs.law_lemmas.TypedGifts.{given_typed}
+use Rattle.td_engine.proofs.law_lemmas.TypedAfter.{base_after, constraint_after, all_assigned_ruled, all_assigned_typed, type_after, virtual_after}
+use Rattle.td_engine.proofs.law_lemmas.TypedAssigned.{given_typed}
 use Rattle.td_engine.proofs.law_lemmas.WrittenStatements.{statement_written}
-use Rattle.td_engine.specs.Assignments.{assigned_database, given_by, with_gifts}
+use Rattle.td_engine.specs.model.Assignments.{assigned_database, given_by, with_all_assigned}
 use Rattle.td_engine.specs.code.Carried.{IsAdmitted}
-use Rattle.td_engine.specs.Checks.{base_check, database_check, derived_check, first_refusal, keys_hold}
-use Rattle.td_engine.specs.Legality.{IsLegal}
-use Rattle.td_engine.specs.LegalityLaws.{AcceptedStatementsKeepLegality}
-use Rattle.td_engine.specs.Machine.{Accepted, base_defined, by_outcome, carried_out, checked_effect, constraint_dropped, init_relation, ok_text, relvar_dropped, type_defined, type_dropped, unchecked_effect, virtual_defined}
-use Rattle.td_engine.specs.Refusals.{by_key, line}
-use Rattle.td_eval.specs.DatabaseWorlds.{world_of}
-use Rattle.td_eval.specs.TreeValues.{value_of}
-use Rattle.td_tree.specs.Outcomes.{Valued, with_value}
-use Rattle.td_tree.specs.Trees.{AttributeTrees, Text, Tree, Assignment, Statement, empty, define_type, drop_type, define_base, define_virtual, drop_var, define_constraint, drop_constraint, assign_all, begin_transaction, commit, rollback, write, dump}
+use Rattle.td_engine.specs.model.Checks.{base_check, database_check, derived_check, first_refusal, keys_hold}
+use Rattle.td_engine.specs.model.Legality.{IsLegal}
+use Rattle.td_engine.specs.laws.LegalityLaws.{AcceptedStatementsKeepLegality}
+use Rattle.td_engine.specs.model.Machine.{Accepted, base_defined, by_outcome, carried_out, checked_effect, constraint_dropped, init_relation, ok_text, relvar_dropped, type_defined, type_dropped, unchecked_effect, virtual_defined}
+use Rattle.td_engine.specs.model.Refusals.{by_key, line}
+use Rattle.td_eval.specs.model.DatabaseWorlds.{world_of}
+use Rattle.td_eval.specs.model.TreeValues.{value_of}
+use Rattle.td_tree.specs.model.Outcomes.{Valued, with_value}
+use Rattle.td_tree.specs.model.Trees.{AttributeTrees, Text, Tree, Assignment, Statement, empty, define_type, drop_type, define_base, define_virtual, drop_var, define_constraint, drop_constraint, assign_all, begin_transaction, commit, rollback, write, dump}
 use Rattle.td_tree.specs.declared.cause.Cause.TheVariants as causes
 use Rattle.td_types.proofs.OutcomeLaws.{value_of_test, value_of_with, valued_is}
-use Rattle.td_types.specs.Headings.{are_distinct}
-use Rattle.td_types.specs.TypeLists.{attributes_meant, declared_type, heading_meant, is_declared}
-use Rattle.td_types.specs.Types.{Type', attribute_names, boolean, char, integer, relation, tuple, unpack, user}
-use Rattle.td_value.specs.Literal.{literal}
+use Rattle.td_types.specs.model.Headings.{are_distinct}
+use Rattle.td_types.specs.model.TypeLists.{attributes_meant, declared_type, heading_meant, is_declared}
+use Rattle.td_types.specs.model.Types.{Type', attribute_names, boolean, char, integer, relation, tuple, unpack, user}
+use Rattle.td_value.specs.model.Literal.{literal}
 
 -- ---- checks that were passed
 
@@ -134,12 +134,12 @@ module _ (db new : Database) (text : List ℕ) (legal : IsLegal db) where
   assigned_legal assignments is e =
       let made = followed (assigned_database db assignments) checked_effect new text e in
       let given = value_of_with (given_by db [] assignments) _ made.0 made.1 in
-      let same : with_gifts given.0 db ≡ made.0 = valued_is (with_gifts given.0 db) made.0 given.2 in
-      let gifts =
+      let same : with_all_assigned given.0 db ≡ made.0 = valued_is (with_all_assigned given.0 db) made.0 given.2 in
+      let all_assigned =
       given_typed db legal.typed assignments given.0 (statement_written (assign_all assignments) is.spelled) is.checked given.1 in
-      settled_legal (with_gifts given.0 db) (ap checked_effect same ∙ made.2)
-      (λ none. legal_with_gifts db legal given.0 assignments given.1 gifts (gifts_typed db given.0 legal gifts)
-      (gifts_ruled db given.0 legal gifts (bases_passed (with_gifts given.0 db) none)) (passed (with_gifts given.0 db) none))
+      settled_legal (with_all_assigned given.0 db) (ap checked_effect same ∙ made.2)
+      (λ none. legal_with_all_assigned db legal given.0 assignments given.1 all_assigned (all_assigned_typed db given.0 legal all_assigned)
+      (all_assigned_ruled db given.0 legal all_assigned (bases_passed (with_all_assigned given.0 db) none)) (passed (with_all_assigned given.0 db) none))
 
   -- a type that is dropped
   type_drop_legal : (n : Text) → by_outcome (type_dropped db n) unchecked_effect ≡ Accepted new text → IsLegal new

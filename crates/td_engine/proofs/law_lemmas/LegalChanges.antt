@@ -3,32 +3,32 @@
 use Rattle.std.proofs.Common.{◌≡◌, ℕ, false, List, [], map, refl}
 use Rattle.std.specs.Prelude.{◌||◌}
 use Rattle.std.specs.List.{AllByRecursion, list_any}
-use Rattle.td_catalog.specs.Database.{BaseRelvar, Database, NamedConstraint, VirtualRelvar, database_scope, empty_database, with_base, with_constraint, with_declared, with_virtual, without_constraint, without_relvar, without_type}
+use Rattle.td_catalog.specs.model.Database.{BaseRelvar, Database, NamedConstraint, VirtualRelvar, database_scope, empty_database, with_base, with_constraint, with_declared, with_virtual, without_constraint, without_relvar, without_type}
 use Rattle.td_catalog.proofs.Lists.{each_after_none, each_after_push}
 use Rattle.td_catalog.proofs.TypedChanges.{typed_empty}
-use Rattle.td_catalog.specs.TypedDatabases.{IsTyped, IsTypedBase}
-use Rattle.td_catalog.specs.Mentioned.{base_mentions_type, is_relvar_in_use, is_type_in_use, tree_mentions_relvar, tree_mentions_type, type_mentions_type}
+use Rattle.td_catalog.specs.model.TypedDatabases.{IsTyped, IsTypedBase}
+use Rattle.td_catalog.specs.model.Mentioned.{base_mentions_type, is_relvar_in_use, is_type_in_use, tree_mentions_relvar, tree_mentions_type, type_mentions_type}
 use Rattle.td_engine.proofs.law_lemmas.EachOf.{all_given, all_push, all_removed, neither, none_passes}
-use Rattle.td_engine.proofs.law_lemmas.GivenRelations.{Meets, all_given_meet, gifts_meet}
-use Rattle.td_engine.proofs.law_lemmas.OrderedGifts.{gifts_ordered}
+use Rattle.td_engine.proofs.law_lemmas.GivenRelations.{Meets, all_given_meet, all_assigned_meet}
+use Rattle.td_engine.proofs.law_lemmas.OrderedAssigned.{all_assigned_ordered}
 use Rattle.td_engine.proofs.law_lemmas.PassedChecks.{Passed}
 use Rattle.td_engine.proofs.law_lemmas.TestsAfterDrops.{constraints_without_constraint, constraints_without_relvar, constraints_without_type, virtuals_without_constraint, virtuals_without_relvar, virtuals_without_type}
-use Rattle.td_engine.specs.Assignments.{Given, given_by, with_gift, with_gifts}
-use Rattle.td_engine.specs.code.Gifts.{AreGifts}
+use Rattle.td_engine.specs.model.Assignments.{Given, given_by, with_assigned, with_all_assigned}
+use Rattle.td_engine.specs.code.AssignedRelations.{AreAssigned}
 use Rattle.td_engine.proofs.law_lemmas.RankChanges.{bases_later, bases_left, types_left, virtuals_later, virtuals_left}
-use Rattle.td_engine.specs.Legality.{AreOrdered, IsRuledBase, IsRuledVirtual, IsRanked, IsLegal, IsSpelledExpression, IsSpelledIf}
+use Rattle.td_engine.specs.model.Legality.{AreOrdered, IsRuledBase, IsRuledVirtual, IsRanked, IsLegal, IsSpelledExpression, IsSpelledIf}
 use Rattle.td_eval.proofs.law_lemmas.DroppedTypes.{drops_keep_what_meets}
 use Rattle.td_eval.proofs.law_lemmas.LaterEntries.{later_entries_change_nothing}
 use Rattle.td_eval.proofs.law_lemmas.MetConstraints.{later_types_keep_what_meets}
 use Rattle.td_eval.proofs.law_lemmas.MetWorlds.{values_meet_constraints}
-use Rattle.td_eval.specs.DatabaseWorlds.{world_of}
-use Rattle.td_eval.specs.LiteralValues.{MeetConstraint}
-use Rattle.td_eval.specs.MetConstraints.{GivesOnly}
-use Rattle.td_tree.specs.Outcomes.{Valued}
-use Rattle.td_tree.specs.Trees.{Assignment}
-use Rattle.td_types.specs.TypeLists.{DeclaredType}
-use Rattle.td_types.specs.Types.{pack, relation, same_name}
-use Rattle.td_value.specs.Values.{relation_value}
+use Rattle.td_eval.specs.model.DatabaseWorlds.{world_of}
+use Rattle.td_eval.specs.model.MetConstraints.{MeetConstraint}
+use Rattle.td_eval.specs.laws.MetConstraintLaws.{GivesOnly}
+use Rattle.td_tree.specs.model.Outcomes.{Valued}
+use Rattle.td_tree.specs.model.Trees.{Assignment}
+use Rattle.td_types.specs.model.TypeLists.{DeclaredType}
+use Rattle.td_types.specs.model.Types.{pack, relation, same_name}
+use Rattle.td_value.specs.model.Values.{relation_value}
 
 -- a database in which nothing is defined
 pub legal_empty : IsLegal empty_database
@@ -140,19 +140,19 @@ module _ (db : Database) (legal : IsLegal db) where
   -- ---- what is assigned
 
   -- what the assignments gave meets the constraints of its types
-  pub legal_with_gifts : (given : Given) (assignments : List Assignment) → given_by db [] assignments ≡ Valued given → AreGifts db given → IsTyped (with_gifts given db)
-      → AllByRecursion (IsRuledBase db.types) (map (with_gift given) db.bases)
-      → Passed (with_gifts given db) → IsLegal (with_gifts given db)
-  legal_with_gifts given assignments is gifts typed bases checked =
+  pub legal_with_all_assigned : (given : Given) (assignments : List Assignment) → given_by db [] assignments ≡ Valued given → AreAssigned db given → IsTyped (with_all_assigned given db)
+      → AllByRecursion (IsRuledBase db.types) (map (with_assigned given) db.bases)
+      → Passed (with_all_assigned given db) → IsLegal (with_all_assigned given db)
+  legal_with_all_assigned given assignments is all_assigned typed bases checked =
       record {
         typed = typed;
         ranked = legal.ranked;
         bases = bases;
         derived = legal.derived;
         spelled = record { types = legal.spelled.types; virtuals = legal.spelled.virtuals; constraints = legal.spelled.constraints };
-        ordered = record { bases = gifts_ordered db given legal.typed gifts legal.ordered.bases; virtuals = legal.ordered.virtuals };
+        ordered = record { bases = all_assigned_ordered db given legal.typed all_assigned legal.ordered.bases; virtuals = legal.ordered.virtuals };
         types =
-            gifts_meet db.types given (all_given_meet db.types db world_gives legal.types [] given assignments tt is) db.bases legal.types;
+            all_assigned_meet db.types given (all_given_meet db.types db world_gives legal.types [] given assignments tt is) db.bases legal.types;
         virtuals = checked.virtuals;
         constraints = checked.constraints;
       }

@@ -2,18 +2,18 @@
 use Rattle.std.proofs.Common.{◌≡◌, ◌∷◌, Bool, true, false, nat_lt, List, [], arith, refl, subst, sym}
 use Rattle.std.proofs.lemmas.Bool.Decides.{nat_tests}
 use Rattle.std.specs.Prelude.{◌<◌, length, if◌then◌else◌}
-use Rattle.td_catalog.specs.Database.{Database}
+use Rattle.td_catalog.specs.model.Database.{Database}
 use Rattle.td_engine.proofs.law_lemmas.Answered.{of_database}
 use Rattle.td_engine.proofs.law_lemmas.KeptLegal.{accepted_keep_legal}
 use Rattle.td_engine.proofs.law_lemmas.Transactions.{begin_legal, commit_legal, rollback_legal}
-use Rattle.td_engine.specs.code.Carried.{IsOfDatabase, IsSpelledStatement}
-use Rattle.td_engine.specs.Machine.{Accepted, Denied, Effect, Progress, Runs, State, Step, Steps, and_then, begun_transaction, committed_transaction, denied_transaction, effect, effect_in, keeping, next, nothing, ok_text, rolled_back, state_of, step_of, step_of_outcome, stopped, transaction_limit}
-use Rattle.td_engine.specs.Legality.{IsLegalState}
-use Rattle.td_engine.specs.LegalityLaws.{RunsKeepLegality}
-use Rattle.td_parse.specs.code.Parsing.{Parsed, bad_token, nothing_spelled, statement_spelled}
-use Rattle.td_tree.specs.Outcomes.{Outcome}
-use Rattle.td_tree.specs.Statements.{PlacedToken}
-use Rattle.td_tree.specs.Trees.{Statement, empty, define_type, drop_type, define_base, define_virtual, drop_var, define_constraint, drop_constraint, assign_all, begin_transaction, commit, rollback, write, dump}
+use Rattle.td_engine.specs.code.Carried.{IsOfDatabase}
+use Rattle.td_engine.specs.model.Machine.{Accepted, Denied, Effect, Progress, Runs, State, Step, Steps, and_then, begun_transaction, committed_transaction, denied_transaction, effect, effect_in, keeping, next, nothing, ok_text, rolled_back, state_of, step_of, step_of_outcome, stopped, transaction_limit}
+use Rattle.td_engine.specs.model.Legality.{IsLegalState}
+use Rattle.td_engine.specs.laws.LegalityLaws.{RunsKeepLegality, IsSpelledStatement}
+use Rattle.td_parse.specs.model.Meanings.{Parsed, bad_token, nothing_spelled, statement_spelled}
+use Rattle.td_tree.specs.model.Outcomes.{Outcome}
+use Rattle.td_tree.specs.model.Statements.{PlacedToken}
+use Rattle.td_tree.specs.model.Trees.{Statement, empty, define_type, drop_type, define_base, define_virtual, drop_var, define_constraint, drop_constraint, assign_all, begin_transaction, commit, rollback, write, dump}
 
 -- what an effect leaves
 abbrev left_by : State → Effect State → State

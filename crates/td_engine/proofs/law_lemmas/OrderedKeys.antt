@@ -4,14 +4,14 @@ use Rattle.std.specs.Cmp.Lexicographic.{same_text}
 use Rattle.std.specs.List.{AllByRecursion, list_all}
 use Rattle.std.specs.Prelude.{◌&&◌, ◌||◌, if◌then◌else◌}
 use Rattle.td_algebra.proofs.Entries.{heading_distinct}
-use Rattle.td_catalog.specs.Dumps.{ordered_names}
-use Rattle.td_engine.specs.Legality.{AreBaseKeys}
-use Rattle.td_check.specs.StatementTypes.{is_included, keys_allowed, none_includes}
-use Rattle.td_engine.specs.Legality.{AreOrdered}
+use Rattle.td_catalog.specs.model.Dumps.{ordered_names}
+use Rattle.td_engine.specs.model.Legality.{AreBaseKeys}
+use Rattle.td_check.specs.model.StatementTypes.{is_included, keys_allowed, none_includes}
+use Rattle.td_engine.specs.model.Legality.{AreOrdered}
 use Rattle.td_eval.proofs.law_lemmas.DistinctNames.{first_apart, has_rest}
 use Rattle.td_types.proofs.HeadingLaws.{has_attribute-names, same_name-itself}
-use Rattle.td_types.specs.Headings.{are_distinct, has_attribute, has_attributes, has_name}
-use Rattle.td_types.specs.Types.{Heading, IsHeading, attribute_names, pack, same_name}
+use Rattle.td_types.specs.model.Headings.{are_distinct, has_attribute, has_attributes, has_name}
+use Rattle.td_types.specs.model.Types.{Heading, IsHeading, attribute_names, pack, same_name}
 
 both : (a b : Bool) → (a && b) ≡ true → (a ≡ true) × (b ≡ true)
 both true b e = (refl, e)

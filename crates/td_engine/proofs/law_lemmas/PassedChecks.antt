@@ -2,14 +2,14 @@
 use Rattle.std.proofs.Common.{◌≡◌, ◌∷◌, Bool, true, false, List, [], Option, Some, None, refl}
 use Rattle.std.specs.List.{AllByRecursion}
 use Rattle.std.specs.Option.{option_or}
-use Rattle.td_catalog.specs.Database.{Database}
-use Rattle.td_engine.specs.Checks.{base_check, constraint_check, database_check, derived_check, first_refusal, refusal_unless_passed, virtual_check, virtual_test}
-use Rattle.td_engine.specs.Refusals.{Refusal, by_constraint, by_key}
-use Rattle.td_engine.specs.Legality.{HasKeysThatHold, IsTrueOf}
-use Rattle.td_eval.specs.DatabaseWorlds.{world_of}
-use Rattle.td_eval.specs.OperatorValues.{truth_value}
-use Rattle.td_eval.specs.TreeValues.{value_of}
-use Rattle.td_tree.specs.Outcomes.{Outcome, Valued, Refused}
+use Rattle.td_catalog.specs.model.Database.{Database}
+use Rattle.td_engine.specs.model.Checks.{base_check, constraint_check, database_check, derived_check, first_refusal, refusal_unless_passed, virtual_check, virtual_test}
+use Rattle.td_engine.specs.model.Refusals.{Refusal, by_constraint, by_key}
+use Rattle.td_engine.specs.model.Legality.{HasKeysThatHold, IsTrueOf}
+use Rattle.td_eval.specs.model.DatabaseWorlds.{world_of}
+use Rattle.td_eval.specs.model.OperatorValues.{truth_value}
+use Rattle.td_eval.specs.model.TreeValues.{value_of}
+use Rattle.td_tree.specs.model.Outcomes.{Outcome, Valued, Refused}
 
 -- a test that is passed is TRUE
 pub passed_test : (r : Refusal) (o : Outcome Bool) → refusal_unless_passed r o ≡ None → o ≡ Valued true

@@ -5,19 +5,19 @@ use Rattle.std.proofs.lemmas.List.Folds.{list_any-append}
 use Rattle.std.specs.List.{AllByRecursion}
 use Rattle.td_catalog.proofs.Lists.{each_removed, neither}
 use Rattle.td_catalog.proofs.TypedTypeDrops.{headings_apart, made_of_none, others_all_alone, apart_bases}
-use Rattle.td_catalog.specs.Database.{BaseRelvar, Database, VirtualRelvar, database_scope, with_virtuals}
-use Rattle.td_catalog.specs.Mentioned.{base_mentions_type, is_type_in_use}
-use Rattle.td_catalog.specs.TypedDatabases.{EachAfter, IsTyped, IsTypedBase, IsTypedVirtual}
-use Rattle.td_check.specs.StaticLaws.{UsersAllIn, is_other}
+use Rattle.td_catalog.specs.model.Database.{BaseRelvar, Database, VirtualRelvar, database_scope, with_virtuals}
+use Rattle.td_catalog.specs.model.Mentioned.{base_mentions_type, is_type_in_use}
+use Rattle.td_catalog.specs.model.TypedDatabases.{EachAfter, IsTyped, IsTypedBase, IsTypedVirtual}
+use Rattle.td_check.specs.laws.StaticLaws.{UsersAllIn, is_other}
 use Rattle.td_engine.proofs.law_lemmas.EachOf.{all_follow, all_from_each, all_given, none_passes}
-use Rattle.td_engine.specs.Legality.{IsRuledBase, IsRuledVirtual, IsRanked, IsRankedHeading, IsLegal}
-use Rattle.td_tree.specs.Outcomes.{Valued, value_if, with_value}
+use Rattle.td_engine.specs.model.Legality.{IsRuledBase, IsRuledVirtual, IsRanked, IsRankedHeading, IsLegal}
+use Rattle.td_tree.specs.model.Outcomes.{Valued, value_if, with_value}
 use Rattle.td_tree.specs.declared.cause.Cause.TheVariants as causes
 use Rattle.td_types.proofs.Ranks.{rank_later}
 use Rattle.td_types.proofs.RemovedTypes.{is_made_of-among, limited_rank-without}
-use Rattle.td_types.specs.NamedTypes.{any_names_user, is_component, is_made_of, without_declared}
-use Rattle.td_types.specs.TypeLists.{AreDeclared, AreKnown, DeclaredType, rank_limit}
-use Rattle.td_types.specs.Types.{Heading, pack, relation, same_name, tuple}
+use Rattle.td_types.specs.model.NamedTypes.{any_names_user, is_component, is_made_of, without_declared}
+use Rattle.td_types.specs.model.TypeLists.{AreDeclared, AreKnown, DeclaredType, rank_limit}
+use Rattle.td_types.specs.model.Types.{Heading, pack, relation, same_name, tuple}
 
 -- the headings of typed virtual relvars are known
 pub virtuals_known : (db : Database) → IsTyped db → AllByRecursion (λ (v : VirtualRelvar). AreKnown db.types (pack v.heading)) db.virtuals

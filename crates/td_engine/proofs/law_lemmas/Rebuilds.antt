@@ -2,18 +2,18 @@
 use Rattle.std.proofs.Common.{◌≡◌, ◌∙◌, ◌∷◌, ◌++◌, ◌+◌, Bool, true, false, List, [], None, ap, map, refl, subst, sym}
 use Rattle.std.specs.Prelude.{nat_lt}
 use Rattle.std.specs.List.{AllByRecursion}
-use Rattle.td_catalog.specs.Database.{Database, empty_database}
-use Rattle.td_catalog.specs.Dumps.{dump_text}
+use Rattle.td_catalog.specs.model.Database.{Database, empty_database}
+use Rattle.td_catalog.specs.model.Dumps.{dump_text}
 use Rattle.td_engine.proofs.law_lemmas.Answered.{of_database}
 use Rattle.td_engine.specs.code.Carried.{IsOfDatabase}
-use Rattle.td_engine.specs.Machine.{Accepted, Progress, Runs, State, Step, Steps, and_then, progress_at_first, effect, empty_state, has_stopped, keeping, next, nothing, ok_text, state_of, step_of, step_of_outcome}
-use Rattle.td_engine.specs.Rebuilding.{AcceptsAll, AreReadAs, IsReadAs, Rebuilds, accepts, base_statement, constraint_statement, dump_statements, no_more, type_statement, virtual_statement}
+use Rattle.td_engine.specs.model.Machine.{Accepted, Progress, Runs, State, Step, Steps, and_then, progress_at_first, effect, empty_state, has_stopped, keeping, next, nothing, ok_text, state_of, step_of, step_of_outcome}
+use Rattle.td_engine.specs.laws.Rebuilding.{AcceptsAll, AreReadAs, IsReadAs, Rebuilds, accepts, base_statement, constraint_statement, dump_statements, no_more, type_statement, virtual_statement}
 use Rattle.td_parse.proofs.OneTree.{one_statement}
-use Rattle.td_parse.specs.code.Parsing.{Parsed, statement_spelled}
-use Rattle.td_tree.specs.Outcomes.{Valued}
-use Rattle.td_tree.specs.Statements.{PlacedToken, statements}
-use Rattle.td_tree.specs.TokenLexemes.{lexemes}
-use Rattle.td_tree.specs.Trees.{Statement}
+use Rattle.td_parse.specs.model.Meanings.{Parsed, statement_spelled}
+use Rattle.td_tree.specs.model.Outcomes.{Valued}
+use Rattle.td_tree.specs.model.Statements.{PlacedToken, statements}
+use Rattle.td_tree.specs.model.TokenLexemes.{lexemes}
+use Rattle.td_tree.specs.model.Trees.{Statement}
 
 -- ---- one statement
 

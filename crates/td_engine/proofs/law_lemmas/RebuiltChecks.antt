@@ -3,8 +3,8 @@
 use Rattle.std.proofs.Common.{◌≡◌, ◌∙◌, ◌∷◌, List, [], Option, None, ap, refl, sym}
 use Rattle.std.specs.List.{AllByRecursion}
 use Rattle.std.specs.Option.{option_or}
-use Rattle.td_catalog.specs.Database.{Database, NamedConstraint, database_scope}
-use Rattle.td_catalog.specs.TypedDatabases.{IsTyped, IsTypedConstraint}
+use Rattle.td_catalog.specs.model.Database.{Database, NamedConstraint, database_scope}
+use Rattle.td_catalog.specs.model.TypedDatabases.{IsTyped, IsTypedConstraint}
 use Rattle.td_engine.proofs.law_lemmas.EachOf.{all_both, all_given}
 use Rattle.td_engine.proofs.law_lemmas.PassedChecks.{all_pass}
 use Rattle.td_engine.proofs.law_lemmas.RebuiltLists.{all_first}
@@ -12,17 +12,17 @@ use Rattle.td_engine.proofs.law_lemmas.RebuiltParts.{IsPart}
 use Rattle.td_engine.proofs.law_lemmas.SameTests.{IsKnown, all_known, name_checked, same_test, same_truth}
 use Rattle.td_engine.proofs.law_lemmas.Settled.{bases_hold}
 use Rattle.td_engine.proofs.law_lemmas.WrittenStatements.{conditions_written}
-use Rattle.td_engine.specs.Checks.{base_check, constraint_check, database_check, derived_check, first_refusal, refusal_unless_passed, virtual_check}
-use Rattle.td_engine.specs.Machine.{Accepted, checked_effect, ok_text, unless_refused}
-use Rattle.td_engine.specs.Refusals.{Refusal, by_constraint, by_key}
-use Rattle.td_engine.specs.Legality.{HasKeysThatHold, IsLegal, IsTrueOf}
+use Rattle.td_engine.specs.model.Checks.{base_check, constraint_check, database_check, derived_check, first_refusal, refusal_unless_passed, virtual_check}
+use Rattle.td_engine.specs.model.Machine.{Accepted, checked_effect, ok_text, unless_refused}
+use Rattle.td_engine.specs.model.Refusals.{Refusal, by_constraint, by_key}
+use Rattle.td_engine.specs.model.Legality.{HasKeysThatHold, IsLegal, IsTrueOf}
 use Rattle.td_eval.proofs.law_lemmas.LaterEntries.{later_entries_change_nothing}
-use Rattle.td_eval.specs.DatabaseWorlds.{world_of}
-use Rattle.td_eval.specs.TreeValues.{value_of}
-use Rattle.td_eval.specs.ValueLaws.{HasLater, IsChecked}
-use Rattle.td_tree.specs.Trees.{Tree, name}
-use Rattle.td_tree.specs.WrittenTrees.{IsWritten}
-use Rattle.td_types.specs.Types.{boolean}
+use Rattle.td_eval.specs.model.DatabaseWorlds.{world_of}
+use Rattle.td_eval.specs.model.TreeValues.{value_of}
+use Rattle.td_eval.specs.laws.ValueLaws.{HasLater, IsChecked}
+use Rattle.td_tree.specs.model.Trees.{Tree, name}
+use Rattle.td_tree.specs.model.WrittenTrees.{IsWritten}
+use Rattle.td_types.specs.model.Types.{boolean}
 
 -- where each is passed, no check refuses
 pub none_refuses : {A : Type 0} (check : A → Option Refusal) (P : A → Type 0) → ((x : A) → P x → check x ≡ None) → (xs : List A) → AllByRecursion P xs

@@ -1,16 +1,16 @@
 -- The statements of a legal database's dump, done in turn from nothing, are each accepted, and they leave the database.
 use Rattle.std.proofs.Common.{◌≡◌, ◌∙◌, ◌∷◌, ◌++◌, List, [], append-nil, append_assoc, map, refl, subst, sym}
-use Rattle.td_catalog.specs.Database.{Database, empty_database}
+use Rattle.td_catalog.specs.model.Database.{Database, empty_database}
 use Rattle.td_engine.proofs.law_lemmas.RebuiltChecks.{part_passes}
 use Rattle.td_engine.proofs.law_lemmas.RebuiltEffects.{accepted_by}
 use Rattle.td_engine.proofs.law_lemmas.RebuiltLists.{BeginsWith, one_more}
 use Rattle.td_engine.proofs.law_lemmas.RebuiltParts.{all_of, database_of, typed_bases, typed_constraints, typed_types, typed_virtuals}
 use Rattle.td_engine.proofs.law_lemmas.RebuiltRelvars.{base_checked, base_made, constraint_checked, constraint_made, virtual_checked, virtual_made}
 use Rattle.td_engine.proofs.law_lemmas.RebuiltTypes.{type_checked, type_made}
-use Rattle.td_engine.specs.Machine.{Accepted, effect, ok_text}
-use Rattle.td_engine.specs.Rebuilding.{AcceptsAll, DumpsAreAccepted, accepts, base_statement, constraint_statement, no_more, type_statement, virtual_statement}
-use Rattle.td_engine.specs.Legality.{IsLegal}
-use Rattle.td_tree.specs.Trees.{Statement}
+use Rattle.td_engine.specs.model.Machine.{Accepted, effect, ok_text}
+use Rattle.td_engine.specs.laws.Rebuilding.{AcceptsAll, DumpsAreAccepted, accepts, base_statement, constraint_statement, no_more, type_statement, virtual_statement}
+use Rattle.td_engine.specs.model.Legality.{IsLegal}
+use Rattle.td_tree.specs.model.Trees.{Statement}
 
 -- these and then those
 accepts_then : (old next new : Database) (xs ys : List Statement) → AcceptsAll old xs next → AcceptsAll next ys new → AcceptsAll old (xs ++ ys) new

@@ -1,19 +1,19 @@
 -- When a statement of a definition is accepted: what it asks holds, and what it makes passes the checks.
 use Rattle.std.proofs.Common.{◌≡◌, ◌∙◌, ℕ, Bool, true, false, List, ap, not, refl, sym, true≢false}
 use Rattle.std.specs.Prelude.{is_some, ⊤}
-use Rattle.td_catalog.specs.Database.{Database, database_scope, relvar_names}
-use Rattle.td_check.specs.OperatorTypes.{over_relation}
-use Rattle.td_check.specs.Scopes.{known_relvar}
-use Rattle.td_check.specs.StatementTypes.{both_hold, holds_or, statement_checked}
-use Rattle.td_engine.specs.Machine.{Accepted, by_outcome, carried_out, checked_effect, effect, ok_text}
+use Rattle.td_catalog.specs.model.Database.{Database, database_scope, relvar_names}
+use Rattle.td_check.specs.model.OperatorTypes.{over_relation}
+use Rattle.td_check.specs.model.Scopes.{known_relvar}
+use Rattle.td_check.specs.model.StatementTypes.{both_hold, holds_or, statement_checked}
+use Rattle.td_engine.specs.model.Machine.{Accepted, by_outcome, carried_out, checked_effect, effect, ok_text}
 use Rattle.td_eval.proofs.law_lemmas.KnownRelvars.{known_name}
-use Rattle.td_tree.specs.Outcomes.{Outcome, Valued, with_value}
-use Rattle.td_tree.specs.Trees.{Statement}
+use Rattle.td_tree.specs.model.Outcomes.{Outcome, Valued, with_value}
+use Rattle.td_tree.specs.model.Trees.{Statement}
 use Rattle.td_tree.specs.declared.cause.Cause.{Cause}
 use Rattle.td_tree.specs.declared.cause.Cause.TheVariants as causes
-use Rattle.td_types.specs.Headings.{has_name}
+use Rattle.td_types.specs.model.Headings.{has_name}
 use Rattle.td_types.specs.code.TypeCode.{unpack_pack}
-use Rattle.td_types.specs.Types.{Heading, Type', pack, relation}
+use Rattle.td_types.specs.model.Types.{Heading, Type', pack, relation}
 
 -- ---- what is asked
 

@@ -4,7 +4,7 @@ use Rattle.std.specs.List.{AllByRecursion}
 use Rattle.std.proofs.lemmas.List.{map-append}
 use Rattle.td_eval.proofs.law_lemmas.DistinctNames.{are_apart}
 use Rattle.td_types.proofs.HeadingLaws.{same_name-itself}
-use Rattle.td_types.specs.Headings.{are_distinct, has_name}
+use Rattle.td_types.specs.model.Headings.{are_distinct, has_name}
 
 module _ {A : Type 0} where
   -- the list begins with the front

@@ -1,24 +1,24 @@
 -- The first entries of a typed database are a typed database.
 use Rattle.std.proofs.Common.{◌≡◌, ◌∙◌, ◌∷◌, ◌++◌, ℕ, false, List, [], append-nil, ap, map, not, refl, sym}
 use Rattle.std.specs.List.{AllByRecursion}
-use Rattle.td_catalog.specs.Database.{BaseRelvar, Database, NamedConstraint, VirtualRelvar, constraint_names, database_scope, relvar_names, with_virtuals}
-use Rattle.td_catalog.specs.TypedDatabases.{IsTyped, IsTypedBase, IsTypedConstraint, IsTypedVirtual}
-use Rattle.td_catalog.specs.WrittenDefinitions.{ConstraintIsWritten}
+use Rattle.td_catalog.specs.model.Database.{BaseRelvar, Database, NamedConstraint, VirtualRelvar, constraint_names, database_scope, relvar_names, with_virtuals}
+use Rattle.td_catalog.specs.model.TypedDatabases.{IsTyped, IsTypedBase, IsTypedConstraint, IsTypedVirtual}
+use Rattle.td_catalog.specs.model.WrittenDefinitions.{ConstraintIsWritten}
 use Rattle.td_catalog.proofs.TypedChanges.{base_relvars_keep, constraints_keep, typed_empty, types_keep, virtual_relvars_keep}
-use Rattle.td_check.specs.Scopes.{Scope}
-use Rattle.td_check.specs.StaticTypes.{type_of}
+use Rattle.td_check.specs.model.Scopes.{Scope}
+use Rattle.td_check.specs.model.StaticTypes.{type_of}
 use Rattle.td_check.proofs.StaticLaws.{more_changes_nothing}
 use Rattle.td_engine.proofs.law_lemmas.RebuiltLists.{BeginsWith, all_at, all_behind, all_first, all_unmapped, new_name}
 use Rattle.td_eval.proofs.law_lemmas.DistinctNames.{distinct_first}
 use Rattle.td_eval.proofs.law_lemmas.KnownRelvars.{of_front}
 use Rattle.td_eval.proofs.code_lemmas.WorldParts.{virtual_name}
-use Rattle.td_tree.specs.Names.{IsName}
-use Rattle.td_tree.specs.Outcomes.{Valued}
-use Rattle.td_tree.specs.Trees.{Tree}
-use Rattle.td_tree.specs.WrittenTrees.{IsWritten}
-use Rattle.td_types.specs.Headings.{has_name}
-use Rattle.td_types.specs.TypeLists.{DeclaredType}
-use Rattle.td_types.specs.Types.{Type', boolean, pack, relation}
+use Rattle.td_tree.specs.model.Names.{IsName}
+use Rattle.td_tree.specs.model.Outcomes.{Valued}
+use Rattle.td_tree.specs.model.Trees.{Tree}
+use Rattle.td_tree.specs.model.WrittenTrees.{IsWritten}
+use Rattle.td_types.specs.model.Headings.{has_name}
+use Rattle.td_types.specs.model.TypeLists.{DeclaredType}
+use Rattle.td_types.specs.model.Types.{Type', boolean, pack, relation}
 
 -- a database by its entries
 abbrev pub database_of : List DeclaredType → List BaseRelvar → List VirtualRelvar → List NamedConstraint → Database

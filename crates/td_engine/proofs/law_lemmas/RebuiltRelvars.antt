@@ -1,36 +1,35 @@
 -- The statements that define relvars and constraints make them again, behind the entries before them.
 use Rattle.std.proofs.Common.{◌≡◌, ◌∙◌, ◌∷◌, ◌++◌, ℕ, List, [], Option, Some, ap, map, not, refl}
 use Rattle.std.specs.Prelude.{is_some, ⊤}
-use Rattle.td_catalog.specs.Database.{BaseRelvar, Database, NamedConstraint, VirtualRelvar, base_relvar, database_scope, virtual_relvar, with_base, with_virtual}
-use Rattle.td_catalog.specs.TypedDatabases.{IsTyped, IsTypedBase, IsTypedVirtual}
-use Rattle.td_check.specs.OperatorTypes.{if_type, over_relation}
-use Rattle.td_check.specs.Scopes.{known_relvar, knows_constraint}
-use Rattle.td_check.specs.StatementTypes.{both_hold, has_key, heading_rank_fits, holds_or, init_fits, keys_asked, statement_checked, type_if_given}
-use Rattle.td_check.specs.StaticTypes.{type_of}
+use Rattle.td_catalog.specs.model.Database.{BaseRelvar, Database, NamedConstraint, VirtualRelvar, base_relvar, database_scope, virtual_relvar, with_base, with_virtual}
+use Rattle.td_catalog.specs.model.TypedDatabases.{IsTyped, IsTypedBase, IsTypedVirtual}
+use Rattle.td_check.specs.model.OperatorTypes.{if_type, over_relation}
+use Rattle.td_check.specs.model.Scopes.{known_relvar, knows_constraint}
+use Rattle.td_check.specs.model.StatementTypes.{both_hold, has_key, heading_rank_fits, holds_or, init_fits, keys_asked, statement_checked, type_if_given}
+use Rattle.td_check.specs.model.StaticTypes.{type_of}
 use Rattle.td_engine.proofs.law_lemmas.RebuiltEffects.{both_asked, is_asked, is_free, over_heading, unknown_name}
 use Rattle.td_engine.proofs.law_lemmas.RebuiltLists.{all_at}
 use Rattle.td_engine.proofs.law_lemmas.RebuiltParts.{base_is_new, constraint_is_new, constraint_there, database_of, typed_bases, virtual_is_new, virtual_there}
-use Rattle.td_engine.specs.Assignments.{of_heading}
-use Rattle.td_catalog.specs.Dumps.{ordered_names}
-use Rattle.td_engine.specs.Machine.{by_outcome, carried_out, checked_effect, init_relation}
-use Rattle.td_engine.specs.Rebuilding.{base_statement, constraint_statement, virtual_statement}
-use Rattle.td_engine.specs.Legality.{AreOrdered, IsRuledBase, IsRuledVirtual, IsLegal}
+use Rattle.td_engine.specs.model.Assignments.{of_heading}
+use Rattle.td_catalog.specs.model.Dumps.{ordered_names}
+use Rattle.td_engine.specs.model.Machine.{by_outcome, carried_out, checked_effect, init_relation}
+use Rattle.td_engine.specs.laws.Rebuilding.{base_statement, constraint_statement, virtual_statement}
+use Rattle.td_engine.specs.model.Legality.{AreOrdered, IsRuledBase, IsRuledVirtual, IsLegal}
 use Rattle.td_eval.proofs.law_lemmas.LiteralTypes.{heading_means, literals_have_their_types}
 use Rattle.td_eval.proofs.law_lemmas.LiteralValues.{stored_literals_have_their_values}
 use Rattle.td_eval.proofs.code_lemmas.TypedValues.{same_is}
-use Rattle.td_eval.specs.LiteralValues.{MeetsConstraints}
-use Rattle.td_eval.specs.OperatorValues.{on_relation}
-use Rattle.td_tree.specs.Outcomes.{Outcome, Valued, value_if, with_both, with_value}
-use Rattle.td_tree.specs.Trees.{Statement, Tree, define_base, define_virtual}
+use Rattle.td_eval.specs.model.MetConstraints.{MeetsConstraints}
+use Rattle.td_eval.specs.model.OperatorValues.{on_relation}
+use Rattle.td_tree.specs.model.Outcomes.{Outcome, Valued, value_if, with_both, with_value}
+use Rattle.td_tree.specs.model.Trees.{Statement, Tree, define_base, define_virtual}
 use Rattle.td_tree.specs.declared.cause.Cause.TheVariants as causes
 use Rattle.td_types.specs.code.TypeCode.{unpack_pack}
-use Rattle.td_types.specs.TypeLists.{heading_meant}
-use Rattle.td_types.specs.TypeTrees.{attribute_trees}
-use Rattle.td_types.specs.Types.{Heading, Type', boolean, pack, relation}
-use Rattle.td_value.specs.LiteralTrees.{literal_tree}
+use Rattle.td_types.specs.model.TypeLists.{heading_meant}
+use Rattle.td_types.specs.laws.TypeTrees.{attribute_trees}
+use Rattle.td_types.specs.model.Types.{Heading, Type', boolean, pack, relation}
+use Rattle.td_value.specs.laws.LiteralTrees.{literal_tree}
 use Rattle.td_value.specs.code.ValueCode.{unpack_pack_rows}
-use Rattle.td_value.specs.Values.{Relation, relation_value}
-use Rattle.td_value.specs.code.Views.{relation_view}
+use Rattle.td_value.specs.model.Values.{Relation, relation_value, relation_view}
 
 some_key : (keys : List (List (List ℕ))) → (keys ≡ [] → ⊥) → has_key keys ≡ Valued tt
 some_key [] some = absurd (some refl)

@@ -2,21 +2,21 @@
 use Rattle.std.proofs.Common.{◌≡◌, ◌∙◌, ◌∷◌, ◌++◌, List, [], ap, not, refl}
 use Rattle.std.specs.Prelude.{⊤}
 use Rattle.std.specs.List.{AllByRecursion}
-use Rattle.td_catalog.specs.Database.{Database, database_scope, with_declared}
-use Rattle.td_check.specs.StatementTypes.{both_hold, components_meant, constraint_fits, holds_or, rank_fits, statement_checked}
+use Rattle.td_catalog.specs.model.Database.{Database, database_scope, with_declared}
+use Rattle.td_check.specs.model.StatementTypes.{both_hold, components_meant, constraint_fits, holds_or, rank_fits, statement_checked}
 use Rattle.td_engine.proofs.law_lemmas.RebuiltEffects.{both_asked}
 use Rattle.td_engine.proofs.law_lemmas.RebuiltParts.{database_of}
-use Rattle.td_engine.specs.Legality.{IsLegal}
-use Rattle.td_engine.specs.Machine.{by_outcome, carried_out, checked_effect}
-use Rattle.td_engine.specs.Rebuilding.{type_statement}
+use Rattle.td_engine.specs.model.Legality.{IsLegal}
+use Rattle.td_engine.specs.model.Machine.{by_outcome, carried_out, checked_effect}
+use Rattle.td_engine.specs.laws.Rebuilding.{type_statement}
 use Rattle.td_eval.proofs.code_lemmas.KeepsGathered.{all_from_members}
-use Rattle.td_tree.specs.Outcomes.{Outcome, Valued, value_if, with_both, with_value}
+use Rattle.td_tree.specs.model.Outcomes.{Outcome, Valued, value_if, with_both, with_value}
 use Rattle.td_tree.specs.declared.cause.Cause.TheVariants as causes
 use Rattle.td_types.proofs.Meanings.{means_type}
-use Rattle.td_types.specs.Headings.{are_distinct}
-use Rattle.td_types.specs.TypeLists.{DeclaredType, IsDeclarable, IsKnown, attributes_meant, declared_type, is_declared}
-use Rattle.td_types.specs.TypeTrees.{attribute_trees}
-use Rattle.td_types.specs.Types.{Attribute, IsType, attribute_names, pack}
+use Rattle.td_types.specs.model.Headings.{are_distinct}
+use Rattle.td_types.specs.model.TypeLists.{DeclaredType, IsDeclarable, IsKnown, attributes_meant, declared_type, is_declared}
+use Rattle.td_types.specs.laws.TypeTrees.{attribute_trees}
+use Rattle.td_types.specs.model.Types.{Attribute, IsType, attribute_names, pack}
 
 -- ---- components
 

@@ -1,8 +1,8 @@
 -- Statements in turn: runs joined, the machine's one answer, and what a run leaves.
 use Rattle.std.proofs.Common.{◌≡◌, ◌≤◌, ◌+◌, ℕ, zero, suc, Bool, true, false, List, [], ◌∷◌, ◌++◌, take, refl, sym, ap, ◌∙◌, arith, subst}
-use Rattle.td_engine.specs.Machine.{Progress, State, Step, Steps, step_of_outcome, Runs, nothing, stopped, next, and_then, has_stopped}
+use Rattle.td_engine.specs.model.Machine.{Progress, State, Step, Steps, step_of_outcome, Runs, nothing, stopped, next, and_then, has_stopped}
 use Rattle.td_parse.proofs.Parsed.{one_meaning}
-use Rattle.td_tree.specs.Statements.{PlacedToken}
+use Rattle.td_tree.specs.model.Statements.{PlacedToken}
 
 -- after a stop nothing is run
 pub runs_stopped : (stop : Bool) (p : Progress) (ss : List (List PlacedToken)) → has_stopped stop p ≡ true → Runs stop p ss p

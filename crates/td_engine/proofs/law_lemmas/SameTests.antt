@@ -3,21 +3,21 @@
 use Rattle.std.proofs.Common.{◌≡◌, ◌∙◌, ◌∷◌, ℕ, Bool, true, false, List, [], Option, Some, None, ap, refl, sym, true≢false}
 use Rattle.std.specs.Prelude.{if◌then◌else◌, is_some}
 use Rattle.std.specs.List.{AllByRecursion}
-use Rattle.td_catalog.specs.Database.{Database, NamedConstraint, VirtualRelvar, database_scope}
-use Rattle.td_check.specs.Scopes.{KnownRelvar, known_relvar}
+use Rattle.td_catalog.specs.model.Database.{Database, NamedConstraint, VirtualRelvar, database_scope}
+use Rattle.td_check.specs.model.Scopes.{KnownRelvar, known_relvar}
 use Rattle.td_engine.proofs.law_lemmas.EachOf.{all_given}
-use Rattle.td_engine.specs.Checks.{keys_hold}
-use Rattle.td_engine.specs.Legality.{HasKeysThatHold, IsTrueOf}
+use Rattle.td_engine.specs.model.Checks.{keys_hold}
+use Rattle.td_engine.specs.model.Legality.{HasKeysThatHold, IsTrueOf}
 use Rattle.td_eval.proofs.law_lemmas.KnownRelvars.{named, unknown_parts}
 use Rattle.td_eval.proofs.code_lemmas.WorldParts.{virtual_name}
-use Rattle.td_eval.specs.OperatorValues.{on_relation, truth_value}
-use Rattle.td_eval.specs.TreeValues.{value_of}
-use Rattle.td_eval.specs.ValueLaws.{IsChecked}
-use Rattle.td_eval.specs.Worlds.{World, name_value}
-use Rattle.td_tree.specs.Outcomes.{Outcome, Valued, with_value}
-use Rattle.td_tree.specs.Trees.{name}
+use Rattle.td_eval.specs.model.OperatorValues.{on_relation, truth_value}
+use Rattle.td_eval.specs.model.TreeValues.{value_of}
+use Rattle.td_eval.specs.laws.ValueLaws.{IsChecked}
+use Rattle.td_eval.specs.model.Worlds.{World, name_value}
+use Rattle.td_tree.specs.model.Outcomes.{Outcome, Valued, with_value}
+use Rattle.td_tree.specs.model.Trees.{name}
 use Rattle.td_types.proofs.HeadingLaws.{same_name-itself}
-use Rattle.td_types.specs.Types.{pack, relation, same_name}
+use Rattle.td_types.specs.model.Types.{pack, relation, same_name}
 
 -- ---- tests
 

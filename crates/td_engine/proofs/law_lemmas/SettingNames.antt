@@ -1,15 +1,15 @@
 -- The attributes that UPDATE sets.
 use Rattle.std.proofs.Common.{◌≡◌, ◌∙◌, ◌∷◌, ℕ, suc, List, [], ap, length, map, refl, sym}
 use Rattle.std.proofs.lemmas.List.{length-map}
-use Rattle.td_check.specs.OperatorTypes.{attribute_type}
-use Rattle.td_engine.specs.Assignments.{setting_names}
-use Rattle.td_engine.specs.code.Gifts.{setting_attribute}
+use Rattle.td_check.specs.model.OperatorTypes.{attribute_type}
+use Rattle.td_engine.specs.model.Assignments.{setting_names}
+use Rattle.td_engine.specs.code.AssignedRelations.{setting_attribute}
 use Rattle.td_eval.proofs.code_lemmas.WalkedLists.{as_many}
 use Rattle.td_tree.specs.declared.expression.NamedExpr.{NamedExpr}
-use Rattle.td_tree.specs.Outcomes.{Outcome, Valued, Refused, gathered, with_value}
+use Rattle.td_tree.specs.model.Outcomes.{Outcome, Valued, Refused, gathered, with_value}
 use Rattle.td_tree.specs.code.TreeViews.{named_view}
 use Rattle.td_types.proofs.OutcomeLaws.{valued_is, values_of_both}
-use Rattle.td_types.specs.Types.{Attribute, Heading, Type', attribute_names}
+use Rattle.td_types.specs.model.Types.{Attribute, Heading, Type', attribute_names}
 
 pub settings_are : (h : Heading) (xs : List NamedExpr) → map (λ (s : NamedExpr). setting_attribute h s.name) xs ≡ map (setting_attribute h) (setting_names (named_view xs))
 settings_are h [] = refl

@@ -3,20 +3,20 @@ use Rattle.std.proofs.Common.{◌≡◌, ◌∙◌, ◌∷◌, ◌++◌, ℕ, Bo
 use Rattle.std.specs.Prelude.{◌&&◌, ⊤}
 use Rattle.std.specs.List.{AllByRecursion}
 use Rattle.std.specs.Option.{option_or}
-use Rattle.td_body.specs.Bodies.{key_holds}
+use Rattle.td_body.specs.model.Bodies.{key_holds}
 use Rattle.td_body.proofs.Held.{held_by_membership}
-use Rattle.td_catalog.specs.Database.{BaseRelvar, Database, with_base}
-use Rattle.td_catalog.specs.TypedDatabases.{IsTypedBase}
-use Rattle.td_engine.specs.Legality.{IsRuledBase, IsLegal, KeysHold}
+use Rattle.td_catalog.specs.model.Database.{BaseRelvar, Database, with_base}
+use Rattle.td_catalog.specs.model.TypedDatabases.{IsTypedBase}
+use Rattle.td_engine.specs.model.Legality.{IsRuledBase, IsLegal, KeysHold}
 use Rattle.td_engine.specs.code.Carried.{Changes, Passes}
-use Rattle.td_engine.specs.Checks.{base_check, database_check, derived_check, first_refusal, keys_hold, refusal_unless_passed}
-use Rattle.td_engine.specs.Machine.{Accepted, Denied, checked_effect, ok_text, unless_refused}
-use Rattle.td_engine.specs.Refusals.{Refusal, by_key}
+use Rattle.td_engine.specs.model.Checks.{base_check, database_check, derived_check, first_refusal, keys_hold, refusal_unless_passed}
+use Rattle.td_engine.specs.model.Machine.{Accepted, Denied, checked_effect, ok_text, unless_refused}
+use Rattle.td_engine.specs.model.Refusals.{Refusal, by_key}
 use Rattle.td_engine.specs.declared.refusal.Failure.{Failure}
 use Rattle.td_engine.specs.declared.refusal.Failure.TheVariants as failures
-use Rattle.td_tree.specs.Outcomes.{Valued}
-use Rattle.td_types.specs.TypeLists.{DeclaredType}
-use Rattle.td_value.specs.Values.{Relation, IsRelation}
+use Rattle.td_tree.specs.model.Outcomes.{Valued}
+use Rattle.td_types.specs.model.TypeLists.{DeclaredType}
+use Rattle.td_value.specs.model.Values.{Relation, IsRelation}
 
 both_true : (a b : Bool) → (a && b) ≡ true → (a ≡ true) × (b ≡ true)
 both_true true b h = (refl, h)

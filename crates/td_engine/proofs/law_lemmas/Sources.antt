@@ -1,29 +1,28 @@
 -- What INSERT, DELETE and UPDATE are of, without the trees that they stand for.
 use Rattle.std.proofs.Common.{◌≡◌, ◌∙◌, ◌∷◌, ℕ, Bool, true, false, List, [], Result, Ok, Err, ap, refl, sym, map, true≢false}
 use Rattle.std.specs.Prelude.{IfOk, not}
-use Rattle.td_algebra.specs.Operators.{difference, is_disjoint, is_subset, restriction, union}
-use Rattle.td_catalog.specs.Database.{Database}
-use Rattle.td_check.specs.OperatorTypes.{same_heading}
-use Rattle.td_engine.specs.Assignments.{combined_with, of_heading, relation_for, source_world}
-use Rattle.td_engine.specs.code.Gifts.{restricted_relation}
+use Rattle.td_algebra.specs.model.Operators.{difference, is_disjoint, is_subset, restriction, union}
+use Rattle.td_catalog.specs.model.Database.{Database}
+use Rattle.td_check.specs.model.OperatorTypes.{same_heading}
+use Rattle.td_engine.specs.model.Assignments.{combined_with, of_heading, relation_for, source_world}
+use Rattle.td_engine.specs.code.AssignedRelations.{restricted_relation}
 use Rattle.td_eval.proofs.code_lemmas.OpValues.{relation_unpacked}
-use Rattle.td_eval.specs.OperatorValues.{disjoint_union, included_difference, is_true, of_relation, on_relation, on_relations, operator_value, over_one_heading, prefix_value, relation_where, restricted_value, truth_value}
-use Rattle.td_eval.specs.TreeValues.{value_of}
-use Rattle.td_eval.specs.Worlds.{World, name_value}
+use Rattle.td_eval.specs.model.OperatorValues.{disjoint_union, included_difference, is_true, of_relation, on_relation, on_relations, operator_value, over_one_heading, prefix_value, relation_where, restricted_value, truth_value}
+use Rattle.td_eval.specs.model.TreeValues.{value_of}
+use Rattle.td_eval.specs.model.Worlds.{World, name_value}
 use Rattle.td_tree.specs.declared.cause.Cause.TheVariants as causes
 use Rattle.td_tree.specs.declared.operator.Operator.{Operator}
 use Rattle.td_tree.specs.declared.operator.Operator.TheVariants as operators
 use Rattle.td_tree.specs.declared.operator.Prefix.TheVariants as prefixes
 use Rattle.td_tree.specs.declared.fault.Fault.{Fault}
-use Rattle.td_tree.specs.Outcomes.{Answers, Outcome, Valued, Refused, gathered, value_if, with_both, with_value}
-use Rattle.td_tree.specs.Trees.{Tree, name}
-use Rattle.td_tree.specs.Trees as trees
+use Rattle.td_tree.specs.model.Outcomes.{Answers, Outcome, Valued, Refused, gathered, value_if, with_both, with_value}
+use Rattle.td_tree.specs.model.Trees.{Tree, name}
+use Rattle.td_tree.specs.model.Trees as trees
 use Rattle.td_types.proofs.HeadingLaws.{same_name-itself}
 use Rattle.td_types.proofs.OutcomeLaws.{value_of_test, valued_is}
-use Rattle.td_types.specs.TypeOrder.{heading_eq-Decides}
-use Rattle.td_types.specs.Types.{Heading, unpack}
-use Rattle.td_value.specs.Values.{Val, boolean, integer, char, relation_value, user, tuple, relation, Relation, Tuple, unpack_rows}
-use Rattle.td_value.specs.code.Views.{relation_view}
+use Rattle.td_types.specs.code.TypeOrder.{heading_eq-Decides}
+use Rattle.td_types.specs.model.Types.{Heading, unpack}
+use Rattle.td_value.specs.model.Values.{Val, boolean, integer, char, relation_value, user, tuple, relation, Relation, Tuple, unpack_rows, relation_view}
 
 -- ---- headings
 

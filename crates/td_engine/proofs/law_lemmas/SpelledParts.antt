@@ -1,14 +1,14 @@
 -- Expressions in a statement that some tokens spell are spelled by some of these tokens.
 use Rattle.std.proofs.Common.{◌≡◌, ◌∷◌, ◌++◌, List, [], Option, Some, None, append_assoc, refl, subst, sym}
-use Rattle.td_engine.specs.code.Carried.{IsSpelledStatement}
-use Rattle.td_engine.specs.Legality.{IsSpelledExpression, IsSpelledIf}
-use Rattle.td_tree.specs.Lexemes.{Lexeme, keyword, sign}
-use Rattle.td_tree.specs.Lexemes as lexeme
-use Rattle.td_tree.specs.Lists.{Optional, with_braces, with_parentheses, present}
-use Rattle.td_tree.specs.StatementGrammar.{BodySpelling, ConstraintPart, ExpressionItem, StatementSpelling, constraint_definition, constraint_part, statement, type_definition, virtual_definition}
-use Rattle.td_tree.specs.Statements.{PlacedToken}
-use Rattle.td_tree.specs.TokenLexemes.{lexeme_of, lexemes}
-use Rattle.td_tree.specs.Trees.{AttributeTrees, Text, Tree, define_constraint, define_type, define_virtual}
+use Rattle.td_engine.specs.laws.LegalityLaws.{IsSpelledStatement}
+use Rattle.td_engine.specs.model.Legality.{IsSpelledExpression, IsSpelledIf}
+use Rattle.td_tree.specs.model.Lexemes.{Lexeme, keyword, sign}
+use Rattle.td_tree.specs.model.Lexemes as lexeme
+use Rattle.td_tree.specs.model.Lists.{Optional, with_braces, with_parentheses, present}
+use Rattle.td_tree.specs.model.StatementGrammar.{BodySpelling, ConstraintPart, ExpressionItem, StatementSpelling, constraint_definition, constraint_part, statement, type_definition, virtual_definition}
+use Rattle.td_tree.specs.model.Statements.{PlacedToken}
+use Rattle.td_tree.specs.model.TokenLexemes.{lexeme_of, lexemes}
+use Rattle.td_tree.specs.model.Trees.{AttributeTrees, Text, Tree, define_constraint, define_type, define_virtual}
 use Rattle.td_tree.specs.declared.keyword.Keyword.TheVariants as k
 use Rattle.td_tree.specs.declared.token.Sign.TheVariants as signs
 

@@ -4,20 +4,20 @@ use Rattle.std.specs.Cmp.Lexicographic.{same_text}
 use Rattle.std.specs.List.{list_any}
 use Rattle.std.specs.Map.{keys_of}
 use Rattle.std.specs.Prelude.{◌||◌, if◌then◌else◌, is_some}
-use Rattle.td_catalog.specs.Database.{BaseRelvar, Database, VirtualRelvar, base_named, database_scope, known_base, known_virtual, virtual_named}
-use Rattle.td_catalog.specs.NamedRelvars.{names_any}
-use Rattle.td_catalog.specs.TypedDatabases.{IsTyped}
+use Rattle.td_catalog.specs.model.Database.{BaseRelvar, Database, VirtualRelvar, base_named, database_scope, known_base, known_virtual, virtual_named}
+use Rattle.td_catalog.specs.laws.NamedRelvars.{names_any}
+use Rattle.td_catalog.specs.model.TypedDatabases.{IsTyped}
 use Rattle.td_check.proofs.StaticLaws.{mentions_are_known}
 use Rattle.td_check.proofs.WrittenNames.{relvars_are_named}
-use Rattle.td_check.specs.Mentions.{relvars_in}
-use Rattle.td_check.specs.OperatorTypes.{known_or, over_relation, restriction_type}
-use Rattle.td_check.specs.Scopes.{KnownRelvar, Scope, entered_with, known_relvar}
-use Rattle.td_check.specs.StaticLaws.{AgreeAt, UsersAllIn}
-use Rattle.td_check.specs.StaticTypes.{type_of}
-use Rattle.td_check.specs.WrittenNames.{names_in}
-use Rattle.td_engine.proofs.code_lemmas.UnreachedChecks.{gifts_differ}
-use Rattle.td_engine.specs.Additions.{ConditionsStayInTuples, ExpressionsStay}
-use Rattle.td_engine.specs.Assignments.{Given, source_world, with_gifts}
+use Rattle.td_check.specs.model.Mentions.{relvars_in}
+use Rattle.td_check.specs.model.OperatorTypes.{known_or, over_relation, restriction_type}
+use Rattle.td_check.specs.model.Scopes.{KnownRelvar, Scope, entered_with, known_relvar}
+use Rattle.td_check.specs.laws.StaticLaws.{AgreeAt, UsersAllIn}
+use Rattle.td_check.specs.model.StaticTypes.{type_of}
+use Rattle.td_check.specs.laws.WrittenNames.{names_in}
+use Rattle.td_engine.proofs.code_lemmas.UnreachedChecks.{all_assigned_differ}
+use Rattle.td_engine.specs.laws.Additions.{ConditionsStayInTuples, ExpressionsStay}
+use Rattle.td_engine.specs.model.Assignments.{Given, source_world, with_all_assigned}
 use Rattle.td_eval.proofs.code_lemmas.WorldParts.{world_scope, world_selectors}
 use Rattle.td_eval.proofs.law_lemmas.DistinctNames.{has_first}
 use Rattle.td_eval.proofs.law_lemmas.KnownRelvars.{known_as_base, known_as_virtual, known_has, never_none, no_base, some_of, some_one}
@@ -26,23 +26,23 @@ use Rattle.td_eval.proofs.law_lemmas.MentionedValues.{values_depend_on_mentions}
 use Rattle.td_eval.proofs.law_lemmas.MoreWorlds.{any, any_users_all}
 use Rattle.td_eval.proofs.law_lemmas.TypedDatabases.{database_keeps}
 use Rattle.td_eval.proofs.law_lemmas.UnreachedValues.{unreached_values_stay}
-use Rattle.td_eval.specs.DatabaseWorlds.{selectors_of, world_of}
-use Rattle.td_eval.specs.ReachedRelvars.{DiffersIn, reached_from, with_dependent}
-use Rattle.td_eval.specs.TreeValues.{value_of}
-use Rattle.td_eval.specs.ValueLaws.{IsChecked}
-use Rattle.td_eval.specs.ValueTypes.{IsTypedTuple}
-use Rattle.td_eval.specs.Worlds.{World, known_outcome, with_tuples}
+use Rattle.td_eval.specs.model.DatabaseWorlds.{selectors_of, world_of}
+use Rattle.td_eval.specs.laws.ReachedRelvars.{DiffersIn, reached_from, with_dependent}
+use Rattle.td_eval.specs.model.TreeValues.{value_of}
+use Rattle.td_eval.specs.laws.ValueLaws.{IsChecked}
+use Rattle.td_eval.specs.laws.ValueTypes.{IsTypedTuple}
+use Rattle.td_eval.specs.model.Worlds.{World, known_outcome, with_tuples}
 use Rattle.td_tree.specs.declared.cause.Cause.TheVariants as causes
-use Rattle.td_tree.specs.Outcomes.{Outcome, Valued, with_value}
-use Rattle.td_tree.specs.Trees.{Tree, name, restriction}
+use Rattle.td_tree.specs.model.Outcomes.{Outcome, Valued, with_value}
+use Rattle.td_tree.specs.model.Trees.{Tree, name, restriction}
 use Rattle.td_types.proofs.HeadingLaws.{same_name-itself}
 use Rattle.td_types.proofs.NameTests.{name_tests_tell}
 use Rattle.td_types.proofs.OutcomeLaws.{value_of_with}
 use Rattle.td_types.specs.code.TypeCode.{unpack_pack}
-use Rattle.td_types.specs.Headings.{has_name}
-use Rattle.td_types.specs.TypeLists.{declared_at}
-use Rattle.td_types.specs.Types.{Heading, Type', pack, relation, same_name}
-use Rattle.td_value.specs.Values.{Relation, Tuple, heading_of, relation_value}
+use Rattle.td_types.specs.model.Headings.{has_name}
+use Rattle.td_types.specs.model.TypeLists.{declared_at}
+use Rattle.td_types.specs.model.Types.{Heading, Type', pack, relation, same_name}
+use Rattle.td_value.specs.model.Values.{Relation, Tuple, heading_of, relation_value}
 
 -- ---- names
 
@@ -90,17 +90,17 @@ not_changed n relvars vs apart = by_test (has_name n relvars) refl
     by_test false is = is
     by_test true is = absurd (true≢false (sym (changed_reached n relvars vs is) ∙ apart))
 
--- ---- before and after gifts
+-- ---- before and after assignments
 
-module _ (db : Database) (given : Given) (is_typed : IsTyped db) (other : IsTyped (with_gifts given db)) where
+module _ (db : Database) (given : Given) (is_typed : IsTyped db) (other : IsTyped (with_all_assigned given db)) where
   abbrev next : Database
-  next = with_gifts given db
+  next = with_all_assigned given db
 
   abbrev reached : List (List ℕ)
   reached = reached_from (keys_of given) db.virtuals
 
   abbrev differ : DiffersIn (keys_of given) db next
-  differ = gifts_differ db given
+  differ = all_assigned_differ db given
 
   abbrev IsKnownAfter : List ℕ → KnownRelvar → Type 0
   IsKnownAfter n r =
@@ -182,12 +182,12 @@ module _ (db : Database) (given : Given) (is_typed : IsTyped db) (other : IsType
       })
 
   -- afterwards it has it
-  same_after : (s : List Tuple) (e : Tree) → IsChecked (database_scope db) s e → names_any reached e ≡ false
+  pub same_after : (s : List Tuple) (e : Tree) → IsChecked (database_scope db) s e → names_any reached e ≡ false
       → value_of (world_of next) s e ≡ value_of (world_of db) s e
   same_after = same_in (world_of next) (world_scope next) (world_selectors next) value_after
 
   -- and it has it too where the name of a relvar that changed means another relation
-  same_in_source : (relvar : List ℕ) (r : Relation) → has_name relvar (keys_of given) ≡ true → (s : List Tuple) (e : Tree)
+  pub same_in_source : (relvar : List ℕ) (r : Relation) → has_name relvar (keys_of given) ≡ true → (s : List Tuple) (e : Tree)
       → IsChecked (database_scope db) s e → names_any reached e ≡ false
       → value_of (source_world next relvar r) s e ≡ value_of (world_of db) s e
   same_in_source relvar r changed =
@@ -225,8 +225,8 @@ condition_checked db n b condition t at checked typed heading =
     }
 
 pub conditions_stay_in_tuples : ConditionsStayInTuples
-conditions_stay_in_tuples db relvar base gift other condition t legal is_typed at checked none typed heading =
-    let given : Given = (relvar, gift) ∷ [] in
+conditions_stay_in_tuples db relvar base assigned other condition t legal is_typed at checked none typed heading =
+    let given : Given = (relvar, assigned) ∷ [] in
     let here = condition_checked db relvar base condition t at checked typed heading in
     let after = same_after db given legal.typed is_typed (t ∷ []) condition here none in
     let changed : has_name relvar (relvar ∷ []) ≡ true = ap (λ b. b || false) (same_name-itself relvar) in
@@ -235,8 +235,8 @@ conditions_stay_in_tuples db relvar base gift other condition t legal is_typed a
 -- ---- expressions in which no tuple is in scope
 
 pub expressions_stay : ExpressionsStay
-expressions_stay db relvar gift other e legal is_typed checked none =
-    let given : Given = (relvar, gift) ∷ [] in
+expressions_stay db relvar assigned other e legal is_typed checked none =
+    let given : Given = (relvar, assigned) ∷ [] in
     let after = same_after db given legal.typed is_typed [] e checked none in
     let changed : has_name relvar (relvar ∷ []) ≡ true = ap (λ b. b || false) (same_name-itself relvar) in
     (after, same_in_source db given legal.typed is_typed relvar other changed [] e checked none ∙ sym after)

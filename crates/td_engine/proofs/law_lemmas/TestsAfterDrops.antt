@@ -4,27 +4,27 @@ use Rattle.std.specs.Prelude.{if◌then◌else◌}
 use Rattle.std.specs.List.{AllByRecursion}
 use Rattle.std.specs.Set.{remove_key}
 use Rattle.td_algebra.proofs.Lists.{contains_none}
-use Rattle.td_catalog.specs.Database.{BaseRelvar, Database, NamedConstraint, VirtualRelvar, database_scope, without_constraint, without_relvar, without_type}
-use Rattle.td_catalog.specs.TypedDatabases.{IsTyped, IsTypedConstraint}
-use Rattle.td_catalog.specs.Mentioned.{tree_mentions_relvar, tree_mentions_type}
+use Rattle.td_catalog.specs.model.Database.{BaseRelvar, Database, NamedConstraint, VirtualRelvar, database_scope, without_constraint, without_relvar, without_type}
+use Rattle.td_catalog.specs.model.TypedDatabases.{IsTyped, IsTypedConstraint}
+use Rattle.td_catalog.specs.model.Mentioned.{tree_mentions_relvar, tree_mentions_type}
 use Rattle.td_check.proofs.AgreementLaws.{only_one}
-use Rattle.td_check.specs.Mentions.{relvars_in, types_in}
+use Rattle.td_check.specs.model.Mentions.{relvars_in, types_in}
 use Rattle.td_engine.proofs.law_lemmas.EachOf.{all_both, all_given, all_removed}
 use Rattle.td_engine.proofs.law_lemmas.SameTests.{IsKnown, all_known, name_checked, same_test, same_truth}
 use Rattle.td_engine.proofs.law_lemmas.WrittenStatements.{conditions_written}
-use Rattle.td_engine.specs.Legality.{HasKeysThatHold, IsLegal, IsTrueOf}
+use Rattle.td_engine.specs.model.Legality.{HasKeysThatHold, IsLegal, IsTrueOf}
 use Rattle.td_eval.proofs.law_lemmas.DistinctNames.{distinct_rest, first_apart}
 use Rattle.td_eval.proofs.law_lemmas.DroppedEntries.{drops_change_no_value}
 use Rattle.td_eval.proofs.code_lemmas.WorldParts.{virtual_name}
-use Rattle.td_eval.specs.DatabaseWorlds.{world_of}
-use Rattle.td_eval.specs.ValueLaws.{IsChecked}
-use Rattle.td_tree.specs.Trees.{name}
+use Rattle.td_eval.specs.model.DatabaseWorlds.{world_of}
+use Rattle.td_eval.specs.laws.ValueLaws.{IsChecked}
+use Rattle.td_tree.specs.model.Trees.{name}
 use Rattle.td_types.proofs.HeadingLaws.{same_name-itself}
 use Rattle.td_types.proofs.NameTests.{name_tests_tell}
-use Rattle.td_types.specs.Headings.{are_distinct, has_name}
-use Rattle.td_types.specs.Types.{boolean, same_name}
+use Rattle.td_types.specs.model.Headings.{are_distinct, has_name}
+use Rattle.td_types.specs.model.Types.{boolean, same_name}
 use Rattle.std.specs.Cmp.Lexicographic.{same_text}
-use Rattle.td_tree.specs.WrittenTrees.{IsWritten}
+use Rattle.td_tree.specs.model.WrittenTrees.{IsWritten}
 
 -- ---- names
 

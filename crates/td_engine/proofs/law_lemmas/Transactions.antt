@@ -4,11 +4,11 @@ use Rattle.std.proofs.lemmas.List.{reverse-append}
 use Rattle.std.specs.Prelude.{IsFalse, IsTrue, is_none}
 use Rattle.std.specs.List.{AllByRecursion}
 use Rattle.std.specs.String.{string_bytes}
-use Rattle.td_catalog.specs.Database.{Database}
+use Rattle.td_catalog.specs.model.Database.{Database}
 use Rattle.td_engine.proofs.law_lemmas.Answered.{ok_does}
-use Rattle.td_engine.specs.Machine.{Effect, State, committed_transaction, denied_transaction, ok_text, rolled_back, state_of, step_of, transaction_limit}
-use Rattle.td_engine.specs.Refusals.{cause_text, line}
-use Rattle.td_engine.specs.Legality.{IsLegal, IsLegalState}
+use Rattle.td_engine.specs.model.Machine.{Effect, State, committed_transaction, denied_transaction, ok_text, rolled_back, state_of, step_of, transaction_limit}
+use Rattle.td_engine.specs.model.Refusals.{cause_text, line}
+use Rattle.td_engine.specs.model.Legality.{IsLegal, IsLegalState}
 use Rattle.td_engine.specs.code.Steps.{Does}
 use Rattle.td_engine.specs.declared.answer.Answer as code
 use Rattle.td_tree.specs.declared.cause.Cause.TheVariants as causes

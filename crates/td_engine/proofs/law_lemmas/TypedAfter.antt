@@ -4,49 +4,48 @@ use Rattle.std.proofs.lemmas.List.{drop_all, take_all}
 use Rattle.std.specs.List.{AllByRecursion, Contains, slice_get}
 use Rattle.std.specs.List.Sorted.{IsStrictlySortedBy}
 use Rattle.td_catalog.proofs.TypedChanges.{base_relvars_keep, constraints_keep, held, typed_with_body, types_keep, virtual_relvars_keep}
-use Rattle.td_catalog.specs.Database.{BaseRelvar, Database, base_named, base_relvar, database_scope, knows_constraint, knows_relvar, named_constraint, virtual_relvar, with_base, with_bases, with_constraint, with_declared, with_virtual}
-use Rattle.td_catalog.specs.Dumps.{ordered_names}
-use Rattle.td_catalog.specs.TypedDatabases.{IsTyped, IsTypedBase}
+use Rattle.td_catalog.specs.model.Database.{BaseRelvar, Database, base_named, base_relvar, database_scope, knows_constraint, knows_relvar, named_constraint, virtual_relvar, with_base, with_bases, with_constraint, with_declared, with_virtual}
+use Rattle.td_catalog.specs.model.Dumps.{ordered_names}
+use Rattle.td_catalog.specs.model.TypedDatabases.{IsTyped, IsTypedBase}
 use Rattle.td_check.proofs.StaticLaws.{types_are_known}
-use Rattle.td_check.specs.OperatorTypes.{over_relation}
-use Rattle.td_check.specs.StatementTypes.{type_if_given}
-use Rattle.td_check.specs.StaticTypes.{type_of}
+use Rattle.td_check.specs.model.OperatorTypes.{over_relation}
+use Rattle.td_check.specs.model.StatementTypes.{type_if_given}
+use Rattle.td_check.specs.model.StaticTypes.{type_of}
 use Rattle.td_engine.proofs.law_lemmas.Admitted.{both_asked, constraint_admitted, free_in, is_held, type_admitted, virtual_admitted}
 use Rattle.td_engine.proofs.law_lemmas.BaseAdmitted.{base_admitted}
-use Rattle.td_engine.proofs.law_lemmas.Gifted.{checked_keys, found, gift_heading, gift_to, given_none, given_some, put, skipped, some_is, still_found}
-use Rattle.td_engine.proofs.law_lemmas.GiftsInTurn.{one_at}
-use Rattle.td_engine.proofs.law_lemmas.OrderedGifts.{each_found}
+use Rattle.td_engine.proofs.law_lemmas.AssignedBases.{checked_keys, found, assigned_heading, assigned_to, given_none, given_some, put, skipped, some_is, still_found}
+use Rattle.td_engine.proofs.law_lemmas.AssignedInTurn.{one_at}
+use Rattle.td_engine.proofs.law_lemmas.OrderedAssigned.{each_found}
 use Rattle.td_engine.proofs.law_lemmas.OrderedKeys.{base_keys_stay}
 use Rattle.td_engine.proofs.law_lemmas.Settled.{keys_are_held}
-use Rattle.td_engine.proofs.law_lemmas.TypedGifts.{value_like}
+use Rattle.td_engine.proofs.law_lemmas.TypedAssigned.{value_like}
 use Rattle.td_engine.proofs.law_lemmas.WrittenStatements.{if_written, statement_written}
 use Rattle.td_engine.specs.code.Plannable.{IsWrittenIf}
-use Rattle.td_engine.specs.Assignments.{Given, given_to, of_heading, with_gift, with_gifts}
+use Rattle.td_engine.specs.model.Assignments.{Given, given_to, of_heading, with_assigned, with_all_assigned}
 use Rattle.td_engine.specs.code.Carried.{IsAdmitted}
-use Rattle.td_engine.specs.Checks.{base_check, keys_hold}
-use Rattle.td_engine.specs.code.Gifts.{AreGifts, gifted_bases}
-use Rattle.td_engine.specs.Machine.{init_relation}
-use Rattle.td_engine.specs.Legality.{AreBaseKeys, IsRuledBase, IsRuledVirtual, IsRanked, IsRankedHeading, IsLegal}
+use Rattle.td_engine.specs.model.Checks.{base_check, keys_hold}
+use Rattle.td_engine.specs.code.AssignedRelations.{AreAssigned, assigned_bases}
+use Rattle.td_engine.specs.model.Machine.{init_relation}
+use Rattle.td_engine.specs.model.Legality.{AreBaseKeys, IsRuledBase, IsRuledVirtual, IsRanked, IsRankedHeading, IsLegal}
 use Rattle.td_eval.proofs.code_lemmas.KeepsGathered.{member_from_all}
 use Rattle.td_eval.proofs.law_lemmas.TypedDatabases.{database_keeps}
 use Rattle.td_eval.proofs.code_lemmas.TypedTrees.{values_keep_types}
-use Rattle.td_eval.specs.DatabaseWorlds.{world_of}
-use Rattle.td_eval.specs.OperatorValues.{on_relation}
-use Rattle.td_eval.specs.TreeValues.{value_of}
-use Rattle.td_eval.specs.ValueTypes.{KeepsType}
-use Rattle.td_tree.specs.Names.{IsName}
-use Rattle.td_tree.specs.Outcomes.{Valued, with_value}
-use Rattle.td_tree.specs.Trees as trees
-use Rattle.td_tree.specs.Trees.{AttributeTrees, Text, Tree}
-use Rattle.td_tree.specs.WrittenTrees.{HaveNames}
+use Rattle.td_eval.specs.model.DatabaseWorlds.{world_of}
+use Rattle.td_eval.specs.model.OperatorValues.{on_relation}
+use Rattle.td_eval.specs.model.TreeValues.{value_of}
+use Rattle.td_eval.specs.laws.ValueTypes.{KeepsType}
+use Rattle.td_tree.specs.model.Names.{IsName}
+use Rattle.td_tree.specs.model.Outcomes.{Valued, with_value}
+use Rattle.td_tree.specs.model.Trees as trees
+use Rattle.td_tree.specs.model.Trees.{AttributeTrees, Text, Tree}
+use Rattle.td_tree.specs.model.WrittenTrees.{HaveNames}
 use Rattle.td_tree.specs.declared.cause.Cause.TheVariants as causes
 use Rattle.td_types.proofs.Meanings.{known_attributes, known_heading, pack_unpack}
 use Rattle.td_types.proofs.OutcomeLaws.{valued_is, value_of_with, values_of_both}
-use Rattle.td_types.specs.Headings.{made_heading}
-use Rattle.td_types.specs.TypeLists.{IsKnown, attributes_meant, declared_type, heading_meant, is_declared}
-use Rattle.td_types.specs.Types.{Attribute, Attrs, Heading, IsHeading, IsType, Type', pack, relation, unpack}
-use Rattle.td_value.specs.Values.{IsRelation, Relation}
-use Rattle.td_value.specs.code.Views.{relation_view}
+use Rattle.td_types.specs.model.Headings.{made_heading}
+use Rattle.td_types.specs.model.TypeLists.{IsKnown, attributes_meant, declared_type, heading_meant, is_declared}
+use Rattle.td_types.specs.model.Types.{Attribute, Attrs, Heading, IsHeading, IsType, Type', pack, relation, unpack}
+use Rattle.td_value.specs.model.Values.{IsRelation, Relation, relation_view}
 
 module _ (db : Database) (legal : IsLegal db) where
   -- ---- definitions
@@ -134,13 +133,13 @@ module _ (db : Database) (legal : IsLegal db) where
 
 -- ---- assignments
 
-module _ (db : Database) (given : Given) (legal : IsLegal db) (gifts : AreGifts db given) where
+module _ (db : Database) (given : Given) (legal : IsLegal db) (all_assigned : AreAssigned db given) where
   -- the first relvars hold what they were given
   abbrev so_far : ℕ → Database
-  so_far i = with_bases (gifted_bases given i db.bases) db
+  so_far i = with_bases (assigned_bases given i db.bases) db
 
   next_typed : (i : ℕ) → i < length db.bases → IsTyped (so_far i) → IsTyped (so_far (i + 1))
-  next_typed i inside before = by_gift (given_to r.name given) refl
+  next_typed i inside before = by_assigned (given_to r.name given) refl
     where
       r : BaseRelvar
       r = (one_at given db.bases i inside).0
@@ -153,14 +152,14 @@ module _ (db : Database) (given : Given) (legal : IsLegal db) (gifts : AreGifts 
       one q k b is =
           let same : r ≡ b = some_is r b (sym (still_found db given legal.typed i r at) ∙ is) in
           let there = found db given legal.typed i r at in
-          let gift = gift_to db given r.name q gifts k in
-          let headed = gift_heading db given r.name q r gifts k there in
+          let assigned = assigned_to db given r.name q all_assigned k in
+          let headed = assigned_heading db given r.name q r all_assigned k there in
           subst (λ (c : BaseRelvar). (q.heading ≡ c.relation.heading) × IsTypedBase db.types (base_relvar r.name c.keys q)) same
-          (headed, held db r.name q r legal.typed there headed gift.relation gift.typed)
+          (headed, held db r.name q r legal.typed there headed assigned.relation assigned.typed)
 
-      by_gift : (o : Option Relation) → given_to r.name given ≡ o → IsTyped (so_far (i + 1))
-      by_gift None k = subst IsTyped (skipped db given legal.typed i r at k) before
-      by_gift (Some q) k = subst IsTyped (put db given legal.typed i r at q k) (typed_with_body (so_far i) r.name q before (one q k))
+      by_assigned : (o : Option Relation) → given_to r.name given ≡ o → IsTyped (so_far (i + 1))
+      by_assigned None k = subst IsTyped (skipped db given legal.typed i r at k) before
+      by_assigned (Some q) k = subst IsTyped (put db given legal.typed i r at q k) (typed_with_body (so_far i) r.name q before (one q k))
 
   typed_so_far : (i : ℕ) → i ≤ length db.bases → IsTyped (so_far i)
   typed_so_far zero h = legal.typed
@@ -169,36 +168,36 @@ module _ (db : Database) (given : Given) (legal : IsLegal db) (gifts : AreGifts 
       next : i + 1 ≡ suc i
       next = omega arith
 
-  whole : gifted_bases given (length db.bases) db.bases ≡ map (with_gift given) db.bases
+  whole : assigned_bases given (length db.bases) db.bases ≡ map (with_assigned given) db.bases
   whole =
-      ap (λ bs. map (with_gift given) bs ++ drop (length db.bases) db.bases) (take_all (length db.bases) db.bases (omega arith))
-      ∙ ap (λ bs. map (with_gift given) db.bases ++ bs) (drop_all (length db.bases) db.bases (omega arith)) ∙ append-nil (map (with_gift given) db.bases)
+      ap (λ bs. map (with_assigned given) bs ++ drop (length db.bases) db.bases) (take_all (length db.bases) db.bases (omega arith))
+      ∙ ap (λ bs. map (with_assigned given) db.bases ++ bs) (drop_all (length db.bases) db.bases (omega arith)) ∙ append-nil (map (with_assigned given) db.bases)
 
-  pub gifts_typed : IsTyped (with_gifts given db)
-  gifts_typed = subst (λ bs. IsTyped (with_bases bs db)) whole (typed_so_far (length db.bases) (omega arith))
+  pub all_assigned_typed : IsTyped (with_all_assigned given db)
+  all_assigned_typed = subst (λ bs. IsTyped (with_bases bs db)) whole (typed_so_far (length db.bases) (omega arith))
 
   -- what a relvar was given leaves its rank and its keys, which hold where the check is passed
-  gift_ruled : (b : BaseRelvar) → IsRuledBase db.types b × (base_named b.name db ≡ Some b) → base_check (with_gift given b) ≡ None
-      → IsRuledBase db.types (with_gift given b)
-  gift_ruled b is passed = by_gift (given_to b.name given) refl
+  assigned_ruled : (b : BaseRelvar) → IsRuledBase db.types b × (base_named b.name db ≡ Some b) → base_check (with_assigned given b) ≡ None
+      → IsRuledBase db.types (with_assigned given b)
+  assigned_ruled b is passed = by_assigned (given_to b.name given) refl
     where
-      by_gift : (o : Option Relation) → given_to b.name given ≡ o → IsRuledBase db.types (with_gift given b)
-      by_gift None k = subst (IsRuledBase db.types) (sym (given_none given b k)) is.0
-      by_gift (Some q) k =
-          let headed = gift_heading db given b.name q b gifts k is.1 in
-          let same : with_gift given b ≡ base_relvar b.name b.keys q = given_some given b q k in
+      by_assigned : (o : Option Relation) → given_to b.name given ≡ o → IsRuledBase db.types (with_assigned given b)
+      by_assigned None k = subst (IsRuledBase db.types) (sym (given_none given b k)) is.0
+      by_assigned (Some q) k =
+          let headed = assigned_heading db given b.name q b all_assigned k is.1 in
+          let same : with_assigned given b ≡ base_relvar b.name b.keys q = given_some given b q k in
           let checked : base_check (base_relvar b.name b.keys q) ≡ None = ap base_check (sym same) ∙ passed in
           subst (IsRuledBase db.types) (sym same)
           (record {
             ranked = subst (IsRankedHeading db.types) (sym headed) is.0.ranked;
             keys = subst (λ h. AreBaseKeys h b.keys) (sym headed) is.0.keys;
-            hold = checked_keys (base_relvar b.name b.keys q) (gift_to db given b.name q gifts k).relation checked;
+            hold = checked_keys (base_relvar b.name b.keys q) (assigned_to db given b.name q all_assigned k).relation checked;
           })
 
-  pub gifts_ruled : AllByRecursion (λ b. base_check b ≡ None) (map (with_gift given) db.bases) → AllByRecursion (IsRuledBase db.types) (map (with_gift given) db.bases)
-  gifts_ruled passed = each db.bases legal.bases (each_found db given legal.typed) passed
+  pub all_assigned_ruled : AllByRecursion (λ b. base_check b ≡ None) (map (with_assigned given) db.bases) → AllByRecursion (IsRuledBase db.types) (map (with_assigned given) db.bases)
+  all_assigned_ruled passed = each db.bases legal.bases (each_found db given legal.typed) passed
     where
       each : (bs : List BaseRelvar) → AllByRecursion (IsRuledBase db.types) bs → AllByRecursion (λ (b : BaseRelvar). base_named b.name db ≡ Some b) bs
-          → AllByRecursion (λ b. base_check b ≡ None) (map (with_gift given) bs) → AllByRecursion (IsRuledBase db.types) (map (with_gift given) bs)
+          → AllByRecursion (λ b. base_check b ≡ None) (map (with_assigned given) bs) → AllByRecursion (IsRuledBase db.types) (map (with_assigned given) bs)
       each [] ruled there checks = tt
-      each (b ∷ bs) ruled there checks = (gift_ruled b (ruled.0, there.0) checks.0, each bs ruled.1 there.1 checks.1)
+      each (b ∷ bs) ruled there checks = (assigned_ruled b (ruled.0, there.0) checks.0, each bs ruled.1 there.1 checks.1)

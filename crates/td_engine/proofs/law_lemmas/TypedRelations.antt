@@ -1,28 +1,27 @@
 -- The relations that expressions give to relvars: their headings, and the types of their values.
 use Rattle.std.proofs.Common.{◌≡◌, ◌∙◌, List, [], ap, subst, sym}
-use Rattle.td_catalog.specs.Database.{Database, database_scope}
-use Rattle.td_catalog.specs.TypedDatabases.{AreTyped}
-use Rattle.td_check.specs.OperatorTypes.{same_heading}
-use Rattle.td_check.specs.StaticTypes.{type_of}
-use Rattle.td_engine.specs.Assignments.{of_heading, relation_for}
+use Rattle.td_catalog.specs.model.Database.{Database, database_scope}
+use Rattle.td_catalog.specs.model.TypedDatabases.{AreTyped}
+use Rattle.td_check.specs.model.OperatorTypes.{same_heading}
+use Rattle.td_check.specs.model.StaticTypes.{type_of}
+use Rattle.td_engine.specs.model.Assignments.{of_heading, relation_for}
 use Rattle.td_eval.proofs.code_lemmas.TypedTrees.{values_keep_types}
-use Rattle.td_eval.specs.OperatorValues.{on_relation}
-use Rattle.td_eval.specs.TreeValues.{value_of}
-use Rattle.td_eval.specs.ValueTypes.{KeepsScope, KeepsType}
-use Rattle.td_eval.specs.Worlds.{World}
-use Rattle.td_tree.specs.Outcomes.{Valued}
-use Rattle.td_tree.specs.Trees.{Tree}
-use Rattle.td_tree.specs.WrittenTrees.{IsWritten}
+use Rattle.td_eval.specs.model.OperatorValues.{on_relation}
+use Rattle.td_eval.specs.model.TreeValues.{value_of}
+use Rattle.td_eval.specs.laws.ValueTypes.{KeepsScope, KeepsType}
+use Rattle.td_eval.specs.model.Worlds.{World}
+use Rattle.td_tree.specs.model.Outcomes.{Valued}
+use Rattle.td_tree.specs.model.Trees.{Tree}
+use Rattle.td_tree.specs.model.WrittenTrees.{IsWritten}
 use Rattle.td_tree.specs.declared.cause.Cause.TheVariants as causes
 use Rattle.td_types.proofs.Meanings.{pack_unpack}
 use Rattle.td_types.proofs.OutcomeLaws.{value_of_test, value_of_with}
-use Rattle.td_types.specs.TypeLists.{DeclaredType}
-use Rattle.td_types.specs.TypeOrder.{heading_eq-Decides}
-use Rattle.td_types.specs.Types.{Type', unpack}
+use Rattle.td_types.specs.model.TypeLists.{DeclaredType}
+use Rattle.td_types.specs.code.TypeOrder.{heading_eq-Decides}
+use Rattle.td_types.specs.model.Types.{Type', unpack}
 use Rattle.td_value.proofs.Packed.{pack_unpack_rows}
-use Rattle.td_value.specs.KnownValues.{HasType}
-use Rattle.td_value.specs.Values.{Val, boolean, integer, char, user, tuple, relation, Relation, unpack_rows}
-use Rattle.td_value.specs.code.Views.{relation_view}
+use Rattle.td_value.specs.model.KnownValues.{HasType}
+use Rattle.td_value.specs.model.Values.{Val, boolean, integer, char, user, tuple, relation, Relation, unpack_rows, relation_view}
 
 -- a relation whose values are of their types, of the target's heading
 pub record FitsTarget (ds : List DeclaredType) (target r : Relation) : Type 0 where

@@ -4,29 +4,29 @@ use Rattle.std.specs.Prelude.{not}
 use Rattle.std.specs.List.{AllByRecursion, Contains}
 use Rattle.td_algebra.proofs.Lists.{contains_map}
 use Rattle.td_algebra.proofs.Results.{IsRelation-set}
-use Rattle.td_algebra.specs.Operators.{Addition, added_attributes, added_values, set_relation, set_tuple}
-use Rattle.td_algebra.specs.Results.{IsTyped}
-use Rattle.td_check.specs.OperatorTypes.{known_or}
-use Rattle.td_engine.specs.Assignments.{setting_names}
-use Rattle.td_engine.specs.code.Gifts.{setting_attribute}
+use Rattle.td_algebra.specs.model.Operators.{Addition, added_attributes, added_values, set_relation, set_tuple}
+use Rattle.td_algebra.specs.laws.Results.{IsTyped}
+use Rattle.td_check.specs.model.OperatorTypes.{known_or}
+use Rattle.td_engine.specs.model.Assignments.{setting_names}
+use Rattle.td_engine.specs.code.AssignedRelations.{setting_attribute}
 use Rattle.td_eval.proofs.code_lemmas.KeepsExtension.{gathered_member}
 use Rattle.td_eval.proofs.code_lemmas.KeepsRelations.{AreOwn, IsOwn, IsTypedRelation, all_filtered, all_joined, all_made, typed_set}
 use Rattle.td_eval.proofs.code_lemmas.TypedValues.{type_is}
-use Rattle.td_eval.specs.OperatorValues.{additions_of, columns_values, set_value, value_of_type, value_or_false}
-use Rattle.td_eval.specs.TreeValues.{values_in_tuples}
-use Rattle.td_eval.specs.ValueTypes.{IsOfType}
-use Rattle.td_eval.specs.Worlds.{World}
+use Rattle.td_eval.specs.model.OperatorValues.{additions_of, columns_values, set_value, value_of_type, value_or_false}
+use Rattle.td_eval.specs.model.TreeValues.{values_in_tuples}
+use Rattle.td_eval.specs.laws.ValueTypes.{IsOfType}
+use Rattle.td_eval.specs.model.Worlds.{World}
 use Rattle.td_tree.specs.declared.cause.Cause.TheVariants as causes
-use Rattle.td_tree.specs.Names.{IsName}
-use Rattle.td_tree.specs.Outcomes.{Outcome, Valued, Refused, gathered, with_value}
-use Rattle.td_tree.specs.Trees.{NamedTrees, none_named, more_named}
+use Rattle.td_tree.specs.model.Names.{IsName}
+use Rattle.td_tree.specs.model.Outcomes.{Outcome, Valued, Refused, gathered, with_value}
+use Rattle.td_tree.specs.model.Trees.{NamedTrees, none_named, more_named}
 use Rattle.td_types.proofs.HeadingLaws.{attribute_from_heading}
 use Rattle.td_types.proofs.OutcomeLaws.{valued_is, value_of_test, value_of_with, values_of_both}
-use Rattle.td_types.specs.Headings.{are_distinct, has_attribute}
-use Rattle.td_types.specs.TypeLists.{AreKnown, DeclaredType}
-use Rattle.td_types.specs.Types.{Attribute, Heading, IsHeading, IsType, Type', attribute_names, pack, type_at}
-use Rattle.td_value.specs.KnownValues.{HasType}
-use Rattle.td_value.specs.Values.{Relation, Tuple, Val, type_of}
+use Rattle.td_types.specs.model.Headings.{are_distinct, has_attribute}
+use Rattle.td_types.specs.model.TypeLists.{AreKnown, DeclaredType}
+use Rattle.td_types.specs.model.Types.{Attribute, Heading, IsHeading, IsType, Type', attribute_names, pack, type_at}
+use Rattle.td_value.specs.model.KnownValues.{HasType}
+use Rattle.td_value.specs.model.Values.{Relation, Tuple, Val, type_of}
 
 -- ---- what is set
 

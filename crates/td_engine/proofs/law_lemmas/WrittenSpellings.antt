@@ -8,17 +8,17 @@ use Rattle.td_tree.specs.declared.operator.Level.{Level}
 use Rattle.td_tree.specs.declared.token.Kind.{Kind}
 use Rattle.td_tree.specs.declared.token.Kind.TheVariants as kinds
 use Rattle.td_tree.specs.declared.token.Sign.TheVariants as signs
-use Rattle.td_tree.specs.Grammar as g
-use Rattle.td_tree.specs.Grammar.{AdditionsSpelling, AttributesSpelling, ExpressionsSpelling, HeadingSpelling, ListSpelling, LiteralSpelling, PartsSpelling, PostfixSpelling, RenamingSpelling, SettingsSpelling, Spelling, SummariesSpelling, TypeSpelling, operator_words}
-use Rattle.td_tree.specs.Lexemes.{Lexeme, sign}
-use Rattle.td_tree.specs.Lexemes as lexeme
-use Rattle.td_tree.specs.Lists.{Separated, next_item, one_item, with_parentheses}
-use Rattle.td_tree.specs.Names.{IsName, is_name}
-use Rattle.td_tree.specs.Statements.{PlacedToken}
-use Rattle.td_tree.specs.TextTokens.{content}
-use Rattle.td_tree.specs.TokenLexemes.{is_quoted_text, is_the_word, lexeme_of, lexemes}
-use Rattle.td_tree.specs.Trees.{AttributeTrees, Literal, NamedTrees, Postfix, Renaming, Summaries, Text, Tree, Trees, TypeTree}
-use Rattle.td_tree.specs.WrittenTrees.{GiveNames, HasNames, HaveNames, HaveTexts, IsUtf8Literal, IsWritten, ItemsGiveNames, ItemsHaveTexts, OperatorGivesNames, PartsGiveNames, PartsHaveTexts}
+use Rattle.td_tree.specs.model.Grammar as g
+use Rattle.td_tree.specs.model.Grammar.{AdditionsSpelling, AttributesSpelling, ExpressionsSpelling, HeadingSpelling, ListSpelling, LiteralSpelling, PartsSpelling, PostfixSpelling, RenamingSpelling, SettingsSpelling, Spelling, SummariesSpelling, TypeSpelling, operator_words}
+use Rattle.td_tree.specs.model.Lexemes.{Lexeme, sign}
+use Rattle.td_tree.specs.model.Lexemes as lexeme
+use Rattle.td_tree.specs.model.Lists.{Separated, next_item, one_item, with_parentheses}
+use Rattle.td_tree.specs.model.Names.{IsName, is_name}
+use Rattle.td_tree.specs.model.Statements.{PlacedToken}
+use Rattle.td_tree.specs.model.TextTokens.{content}
+use Rattle.td_tree.specs.model.TokenLexemes.{is_quoted_text, is_the_word, lexeme_of, lexemes}
+use Rattle.td_tree.specs.model.Trees.{AttributeTrees, Literal, NamedTrees, Postfix, Renaming, Summaries, Text, Tree, Trees, TypeTree}
+use Rattle.td_tree.specs.model.WrittenTrees.{GiveNames, HasNames, HaveNames, HaveTexts, IsUtf8Literal, IsWritten, ItemsGiveNames, ItemsHaveTexts, OperatorGivesNames, PartsGiveNames, PartsHaveTexts}
 
 -- ---- lexemes
 

@@ -2,19 +2,19 @@
 use Rattle.std.proofs.Common.{◌≡◌, ◌++◌, List, Option, Some, None, subst}
 use Rattle.std.specs.Prelude.{⊤}
 use Rattle.std.specs.List.{AllByRecursion}
-use Rattle.td_engine.specs.code.Carried.{IsSpelledStatement}
-use Rattle.td_tree.specs.Lexemes.{Lexeme}
-use Rattle.td_tree.specs.Lists.{Optional, Separated, absent, next_item, one_item, with_parentheses, present}
-use Rattle.td_tree.specs.Names.{IsName}
-use Rattle.td_tree.specs.StatementGrammar as s
-use Rattle.td_tree.specs.StatementGrammar.{AssignmentSpelling, BodySpelling, ConstraintPart, InitPart, StatementSpelling, WherePart, constraint_part, init_part, where_part}
-use Rattle.td_tree.specs.Trees.{Assignment, Statement, Tree, assign_all, define_base, define_constraint, define_type, define_virtual, write}
-use Rattle.td_catalog.specs.Database.{Database, NamedConstraint}
+use Rattle.td_engine.specs.laws.LegalityLaws.{IsSpelledStatement}
+use Rattle.td_tree.specs.model.Lexemes.{Lexeme}
+use Rattle.td_tree.specs.model.Lists.{Optional, Separated, absent, next_item, one_item, with_parentheses, present}
+use Rattle.td_tree.specs.model.Names.{IsName}
+use Rattle.td_tree.specs.model.StatementGrammar as s
+use Rattle.td_tree.specs.model.StatementGrammar.{AssignmentSpelling, BodySpelling, ConstraintPart, InitPart, StatementSpelling, WherePart, constraint_part, init_part, where_part}
+use Rattle.td_tree.specs.model.Trees.{Assignment, Statement, Tree, assign_all, define_base, define_constraint, define_type, define_virtual, write}
+use Rattle.td_catalog.specs.model.Database.{Database, NamedConstraint}
 use Rattle.td_engine.proofs.law_lemmas.EachOf.{all_follow}
 use Rattle.td_engine.specs.code.Plannable.{IsWrittenAssignment, IsWrittenIf}
-use Rattle.td_engine.specs.Legality.{AreSpelled, IsSpelledExpression}
+use Rattle.td_engine.specs.model.Legality.{AreSpelled, IsSpelledExpression}
 use Rattle.td_engine.proofs.law_lemmas.WrittenSpellings.{AreOfTokens, attributes_written, back, front, heading_written, inside, of_tokens, settings_written, written}
-use Rattle.td_tree.specs.WrittenTrees.{HaveNames, IsWritten}
+use Rattle.td_tree.specs.model.WrittenTrees.{HaveNames, IsWritten}
 
 -- ---- statements as they are written
 

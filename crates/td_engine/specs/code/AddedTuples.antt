@@ -1,14 +1,14 @@
 -- What came into a base relvar, as the code has it (this project's own).
 use Rattle.std.specs.Borrow.{Bor}
 use Rattle.std.specs.Prelude.{◌≡◌, ℕ, List, [], ◌∷◌}
-use Rattle.td_catalog.specs.Database.{Database, NamedConstraint, database_scope}
-use Rattle.td_engine.specs.Additions.{AreAdditions, PassesAsAdded}
-use Rattle.td_engine.specs.Assignments.{source_world}
+use Rattle.td_catalog.specs.model.Database.{Database, NamedConstraint, database_scope}
+use Rattle.td_engine.specs.laws.Additions.{AreAdditions, PassesAsAdded}
+use Rattle.td_engine.specs.model.Assignments.{source_world}
 use Rattle.td_engine.specs.declared.added.Added.{Added}
 use Rattle.td_engine.specs.declared.change.Change.{Change}
-use Rattle.td_eval.specs.ReachedRelvars.{reached_from}
-use Rattle.td_eval.specs.UnfailingValues.{GivesValues}
-use Rattle.td_value.specs.Values.{IsRelation, Relation}
+use Rattle.td_eval.specs.laws.ReachedRelvars.{reached_from}
+use Rattle.td_eval.specs.laws.UnfailingValues.{GivesValues}
+use Rattle.td_value.specs.model.Values.{IsRelation, Relation}
 
 -- the relvar, and what came into it
 abbrev pub added_view : Added → List ℕ × Relation

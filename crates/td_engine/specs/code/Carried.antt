@@ -1,22 +1,20 @@
 -- What the engine's functions give, in the words of the set machine.
 use Rattle.std.specs.Prelude.{◌≡◌, ℕ, List, Option, Some, None, Result, Ok, Err, ⊤}
-use Rattle.td_catalog.specs.Database.{Database, database_scope}
-use Rattle.td_check.specs.StatementTypes.{statement_checked}
-use Rattle.td_engine.specs.Machine.{Effect, Accepted, Denied, by_outcome, carried_out, ok_text, step_of}
-use Rattle.td_engine.specs.Refusals.{Refusal, by_cause, by_constraint, by_key}
+use Rattle.td_catalog.specs.model.Database.{Database, database_scope}
+use Rattle.td_check.specs.model.StatementTypes.{statement_checked}
+use Rattle.td_engine.specs.model.Machine.{Effect, Accepted, Denied, by_outcome, carried_out, ok_text, step_of}
+use Rattle.td_engine.specs.model.Refusals.{Refusal, by_cause, by_constraint, by_key}
 use Rattle.td_engine.specs.code.Steps.{Does}
 use Rattle.td_engine.specs.declared.answer.Answer as code_answer
 use Rattle.td_engine.specs.declared.refusal.Failure.{Failure}
 use Rattle.td_engine.specs.declared.refusal.Failure.TheVariants as failures
 use Rattle.td_engine.specs.declared.refusal.Refusal as code
 use Rattle.td_engine.specs.declared.refusal.Refusal.TheVariants as refusals
-use Rattle.td_tree.specs.Outcomes.{Answers, Outcome, Valued}
-use Rattle.td_tree.specs.StatementGrammar.{StatementSpelling}
-use Rattle.td_tree.specs.Statements.{PlacedToken}
-use Rattle.td_tree.specs.TokenLexemes.{lexemes}
-use Rattle.td_tree.specs.Trees.{Statement, begin_transaction, commit, dump, rollback, write}
+use Rattle.td_tree.specs.model.Outcomes.{Answers, Outcome, Valued}
+use Rattle.td_tree.specs.model.Trees.{Statement, begin_transaction, commit, dump, rollback, write}
 use Rattle.td_tree.specs.declared.fault.Fault.{Fault}
 use Rattle.td_tree.specs.declared.fault.Fault.TheVariants as faults
+use Rattle.td_engine.specs.laws.LegalityLaws.{IsSpelledStatement}
 
 -- what a fault of the crates below is here
 abbrev pub failure_of : Fault → Failure
@@ -52,10 +50,6 @@ IsOfDatabase begin_transaction = ⊥
 IsOfDatabase commit = ⊥
 IsOfDatabase rollback = ⊥
 IsOfDatabase _ = ⊤
-
--- some tokens spell the statement
-abbrev pub IsSpelledStatement : Statement → Type 0
-IsSpelledStatement s = (tokens : List PlacedToken) × StatementSpelling (lexemes tokens) s
 
 -- a statement that is spelled, and meets the static rules
 pub record IsAdmitted (db : Database) (s : Statement) : Type 0 where

@@ -2,10 +2,10 @@
 use Rattle.std.specs.Borrow.{Bor}
 use Rattle.std.specs.Prelude.{◌≡◌, ℕ, IfSome, List, Option, Some}
 use Rattle.std.specs.List.{slice_get}
-use Rattle.td_catalog.specs.Database.{Database, NamedConstraint, database_scope}
+use Rattle.td_catalog.specs.model.Database.{Database, NamedConstraint, database_scope}
 use Rattle.td_plan.specs.code.PlanViews.{PlanValue, plan_view}
-use Rattle.td_plan.specs.PlansOf.{IsPlanIfTyped}
-use Rattle.td_tree.specs.Trees.{Tree}
+use Rattle.td_plan.specs.code.PlansOf.{IsPlanIfTyped}
+use Rattle.td_tree.specs.model.Trees.{Tree}
 
 -- a plan of an expression where the database is known
 pub record IsPlanIn (db : Database) (e : Tree) (plan : PlanValue) : Type 0 where

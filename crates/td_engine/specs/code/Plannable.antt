@@ -1,20 +1,20 @@
 -- Expressions that may be evaluated by a plan.
 use Rattle.std.specs.Prelude.{◌≡◌, ℕ, List, Option, Some, None, ⊤}
 use Rattle.std.specs.List.{AllByRecursion}
-use Rattle.td_catalog.specs.Database.{Database, database_scope}
-use Rattle.td_check.specs.Scopes.{entered_with}
-use Rattle.td_check.specs.StatementTypes.{assignment_checked}
-use Rattle.td_check.specs.StaticTypes.{named_types, type_of}
-use Rattle.td_engine.specs.Assignments.{chosen_for, source_world}
-use Rattle.td_eval.specs.DatabaseWorlds.{world_of}
-use Rattle.td_eval.specs.UnfailingValues.{GivesValues}
-use Rattle.td_eval.specs.ValueTypes.{IsTypedTuple}
-use Rattle.td_eval.specs.Worlds.{World}
-use Rattle.td_tree.specs.Outcomes.{Outcome, Valued}
-use Rattle.td_tree.specs.Trees.{Assignment, NamedTrees, Tree, assign, delete, disjoint_insert, included_delete, insert, name, restriction, update}
-use Rattle.td_tree.specs.WrittenTrees.{IsWritten, PartsGiveNames, PartsHaveTexts}
-use Rattle.td_types.specs.Types.{Attribute, Type'}
-use Rattle.td_value.specs.Values.{IsRelation, Relation}
+use Rattle.td_catalog.specs.model.Database.{Database, database_scope}
+use Rattle.td_check.specs.model.Scopes.{entered_with}
+use Rattle.td_check.specs.model.StatementTypes.{assignment_checked}
+use Rattle.td_check.specs.model.StaticTypes.{named_types, type_of}
+use Rattle.td_engine.specs.model.Assignments.{chosen_for, source_world}
+use Rattle.td_eval.specs.model.DatabaseWorlds.{world_of}
+use Rattle.td_eval.specs.laws.UnfailingValues.{GivesValues}
+use Rattle.td_eval.specs.laws.ValueTypes.{IsTypedTuple}
+use Rattle.td_eval.specs.model.Worlds.{World}
+use Rattle.td_tree.specs.model.Outcomes.{Outcome, Valued}
+use Rattle.td_tree.specs.model.Trees.{Assignment, NamedTrees, Tree, assign, delete, disjoint_insert, included_delete, insert, name, restriction, update}
+use Rattle.td_tree.specs.model.WrittenTrees.{IsWritten, PartsGiveNames, PartsHaveTexts}
+use Rattle.td_types.specs.model.Types.{Attribute, Type'}
+use Rattle.td_value.specs.model.Values.{IsRelation, Relation}
 
 -- an expression that has a type where the database is known
 pub record IsPlannable (db : Database) (e : Tree) : Type 0 where

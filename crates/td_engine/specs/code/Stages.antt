@@ -1,10 +1,10 @@
 -- What a catalogue was and can go back to, and the transactions that are open by the numbers of what was kept when they
 -- began (this project's own).
 use Rattle.std.specs.Prelude.{◌≡◌, ◌≤◌, ℕ, List, [], ◌∷◌, ◌++◌, get_or, length, map, ⊤}
-use Rattle.td_catalog.specs.Database.{Database}
-use Rattle.td_catalog.specs.KeptDatabases.{CatalogView, settled_view, stages}
-use Rattle.td_engine.specs.Legality.{IsLegalState}
-use Rattle.td_engine.specs.Machine.{State, state_of}
+use Rattle.td_catalog.specs.model.Database.{Database}
+use Rattle.td_catalog.specs.code.KeptDatabases.{CatalogView, settled_view, stages}
+use Rattle.td_engine.specs.model.Legality.{IsLegalState}
+use Rattle.td_engine.specs.model.Machine.{State, state_of}
 
 -- the catalogue has only gone forward: it still keeps all that it kept, and what it was
 abbrev pub GoesOn : CatalogView → CatalogView → Type 0

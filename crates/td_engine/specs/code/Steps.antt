@@ -1,13 +1,13 @@
 -- What the engine answers (this project's own).
 use Rattle.std.specs.Prelude.{◌≡◌, List, is_none, Result}
 use Rattle.std.specs.String.{string_bytes}
-use Rattle.td_engine.specs.Machine.{State, Step, Steps}
+use Rattle.td_engine.specs.model.Machine.{State, Step, Steps}
 use Rattle.td_engine.specs.declared.answer.Answer as code
-use Rattle.td_parse.specs.code.Parsing.{Parsed}
-use Rattle.td_tree.specs.Outcomes.{Answers, Outcome}
-use Rattle.td_tree.specs.Statements.{PlacedToken}
+use Rattle.td_parse.specs.model.Meanings.{Parsed}
+use Rattle.td_tree.specs.model.Outcomes.{Answers, Outcome}
+use Rattle.td_tree.specs.model.Statements.{PlacedToken}
 use Rattle.td_tree.specs.code.TreeViews.{statement_view}
-use Rattle.td_tree.specs.Trees as trees
+use Rattle.td_tree.specs.model.Trees as trees
 use Rattle.td_tree.specs.declared.fault.Fault.{Fault}
 use Rattle.td_tree.specs.declared.statement.Statement as code_tree
 

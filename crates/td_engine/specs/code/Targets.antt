@@ -1,21 +1,21 @@
 -- What an assignment is to, as the code has it (this project's own).
 use Rattle.std.specs.Prelude.{◌≡◌, ℕ, List, [], Option, Some, None, Result}
 use Rattle.td_catalog.specs.code.CatalogViews.{IsEntry, base_view}
-use Rattle.td_catalog.specs.Database.{Database, base_named, database_scope}
-use Rattle.td_engine.specs.Assignments.{chosen_for, source_world}
-use Rattle.td_engine.specs.Changes.{changed_by, gift_over}
-use Rattle.td_engine.specs.code.Gifts.{IsGift}
+use Rattle.td_catalog.specs.model.Database.{Database, base_named, database_scope}
+use Rattle.td_engine.specs.model.Assignments.{chosen_for, source_world}
+use Rattle.td_engine.specs.code.Changes.{changed_by, assigned_over}
+use Rattle.td_engine.specs.code.AssignedRelations.{IsAssigned}
 use Rattle.td_engine.specs.code.Plannable.{ArePlannableSettings, IsPlannableConditionIf, IsPlannableSource}
 use Rattle.td_engine.specs.declared.change.Change.{Change}
 use Rattle.td_engine.specs.declared.target.Target.{Target}
-use Rattle.td_eval.specs.code.Sights.{tuples_in_hand, world_in}
+use Rattle.td_eval.specs.code.LentWorlds.{tuples_in_hand, world_in}
 use Rattle.td_eval.specs.declared.env.Env.{Env}
-use Rattle.td_eval.specs.Worlds.{World}
-use Rattle.td_plan.specs.PlansOf.{scope_in}
-use Rattle.td_tree.specs.Outcomes.{Answers, Outcome}
-use Rattle.td_tree.specs.Trees.{Assignment, NamedTrees, Tree}
+use Rattle.td_eval.specs.model.Worlds.{World}
+use Rattle.td_plan.specs.code.PlansOf.{scope_in}
+use Rattle.td_tree.specs.model.Outcomes.{Answers, Outcome}
+use Rattle.td_tree.specs.model.Trees.{Assignment, NamedTrees, Tree}
 use Rattle.td_tree.specs.declared.fault.Fault.{Fault}
-use Rattle.td_value.specs.Values.{Relation}
+use Rattle.td_value.specs.model.Values.{Relation}
 
 -- in it the world is this one, the database's names are known, and no tuple is in hand
 pub record IsEnvOf {B : Type 0} (db : Database) (w : World) (env : Env B) : Type 0 where
@@ -35,7 +35,7 @@ world_for relation t = source_world t.catalog.now.database t.name.now (so_far re
 pub record IsTarget {B : Type 0} (relation : B → Relation) (keys : B → List (List (List ℕ))) (t : Target B) : Type 0 where
   pub entry : IsEntry relation keys t.entry.now
   pub named : base_named t.name.now t.catalog.now.database ≡ Some (base_view relation (t.name.now, t.entry.now))
-  pub gift : IsGift t.catalog.now.database (t.name.now, so_far relation t)
+  pub assigned : IsAssigned t.catalog.now.database (t.name.now, so_far relation t)
 
 -- ---- assignments to it
 
@@ -57,4 +57,4 @@ AreSettingsFor relation t chosen settings = ArePlannableSettings t.catalog.now.d
 
 -- what is answered changes what it holds so far to what an assignment gives
 abbrev pub GivesAs : {B : Type 0} → (B → Relation) → Target B → Result Change Fault → Assignment → Type 0
-GivesAs relation t result a = Answers (λ c. changed_by c (so_far relation t)) result (gift_over t.catalog.now.database (so_far relation t) a)
+GivesAs relation t result a = Answers (λ c. changed_by c (so_far relation t)) result (assigned_over t.catalog.now.database (so_far relation t) a)

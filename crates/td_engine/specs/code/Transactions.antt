@@ -1,12 +1,12 @@
 -- The statements of transactions as the code tells them, and the code of a state (this project's own).
 use Rattle.std.specs.Prelude.{List, refl}
 use Rattle.std.specs.Coded.{Coded, code_by, coded×, coded_list}
-use Rattle.td_catalog.specs.Database.{Database}
+use Rattle.td_catalog.specs.model.Database.{Database}
 use Rattle.td_catalog.specs.code.DatabaseCode.{database_code}
-use Rattle.td_engine.specs.Machine.{State, state_of}
+use Rattle.td_engine.specs.model.Machine.{State, state_of}
 use Rattle.td_engine.specs.declared.transaction.Transaction.{Transaction}
 use Rattle.td_engine.specs.declared.transaction.Transaction.TheVariants as transactions
-use Rattle.td_tree.specs.Trees.{Statement, begin_transaction, commit, rollback}
+use Rattle.td_tree.specs.model.Trees.{Statement, begin_transaction, commit, rollback}
 
 abbrev pub transaction_view : Transaction → Statement
 transaction_view transactions.Begin = begin_transaction

@@ -6,7 +6,7 @@ use Rattle.std.specs.Cmp.Lexicographic.{same_text}
 use Rattle.std.specs.List.{find, position, prefix_len, slice_get}
 use Rattle.std.proofs.lemmas.Bool.Decides.{nat_tests}
 use Rattle.std.specs.Option.{option_or}
-use Rattle.td_types.specs.Types.{same_name}
+use Rattle.td_types.specs.model.Types.{same_name}
 
 module _ {S X Y : Type 0} (look : S → List ℕ → Option Y) (add : S → X → S) (name_of : X → List ℕ) (made : S → X → Y)
     (adds : (s : S) (x : X) (n : List ℕ) → look (add s x) n ≡ option_or (look s n) (if same_name (name_of x) n then Some (made s x) else None)) where

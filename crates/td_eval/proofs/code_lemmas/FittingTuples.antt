@@ -4,17 +4,17 @@ use Rattle.std.specs.Prelude.{if◌then◌else◌, nat_le, ⊤}
 use Rattle.std.proofs.lemmas.List.{take_more}
 use Rattle.std.proofs.lemmas.List.Elements.{All-push}
 use Rattle.std.specs.List.{All, slice_get}
-use Rattle.td_check.specs.OperatorTypes.{same_heading}
+use Rattle.td_check.specs.model.OperatorTypes.{same_heading}
 use Rattle.td_eval.proofs.code_lemmas.FixedElements.{valued_next}
-use Rattle.td_eval.specs.OperatorValues.{element_of, headed_value, listed_value}
-use Rattle.td_tree.specs.Causes.{number_of}
-use Rattle.td_tree.specs.Outcomes.{Answers, Causes, Only, Outcome, Refused, Union, Valued, gathered, least, lesser, named_cause, value_if, with_both}
+use Rattle.td_eval.specs.model.OperatorValues.{element_of, headed_value, listed_value}
+use Rattle.td_tree.specs.model.Causes.{number_of}
+use Rattle.td_tree.specs.model.Outcomes.{Answers, Causes, Only, Outcome, Refused, Union, Valued, gathered, least, lesser, named_cause, value_if, with_both}
 use Rattle.td_tree.specs.declared.cause.Cause.{Cause}
 use Rattle.td_tree.specs.declared.cause.Cause.TheVariants as causes
 use Rattle.td_tree.specs.declared.fault.Fault.{Fault}
 use Rattle.td_tree.specs.declared.fault.Fault.TheVariants as faults
-use Rattle.td_types.specs.Types.{Heading}
-use Rattle.td_value.specs.Values.{IsTupleOf, Tuple, Val, heading_of, tuple_value}
+use Rattle.td_types.specs.model.Types.{Heading}
+use Rattle.td_value.specs.model.Values.{IsTupleOf, Tuple, Val, heading_of, tuple_value}
 use Rattle.td_value.specs.code.ValueCode.{unpack_pack_fields}
 
 -- a tuple as an element of a relation of the heading

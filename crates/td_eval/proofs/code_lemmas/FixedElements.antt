@@ -8,21 +8,21 @@ use Rattle.std.specs.Prelude.{not}
 use Rattle.td_algebra.proofs.Taken.{layout_in_range, numbered_in_range, taken_numbered}
 use Rattle.td_algebra.specs.code.Layouts.{AreInRange, Sources, numbered_sources, placed_tuple}
 use Rattle.td_eval.proofs.code_lemmas.WalkedLists.{arguments_are, entries_are, entry_found, value_found}
-use Rattle.td_eval.specs.OperatorValues.{tuple_from}
-use Rattle.td_eval.specs.TreeValues.{value_of}
-use Rattle.td_eval.specs.Worlds.{World}
+use Rattle.td_eval.specs.model.OperatorValues.{tuple_from}
+use Rattle.td_eval.specs.model.TreeValues.{value_of}
+use Rattle.td_eval.specs.model.Worlds.{World}
 use Rattle.td_eval.specs.code.FixedValues.{AreFixed, EntriesAreFixed, IsFixed, IsPut}
 use Rattle.td_tree.specs.declared.expression.Expr.{Expr}
 use Rattle.td_tree.specs.declared.expression.NamedExpr.{NamedExpr}
-use Rattle.td_tree.specs.Outcomes.{Outcome, Valued, gathered, with_value}
-use Rattle.td_tree.specs.Trees as trees
+use Rattle.td_tree.specs.model.Outcomes.{Outcome, Valued, gathered, with_value}
+use Rattle.td_tree.specs.model.Trees as trees
 use Rattle.td_tree.specs.code.TreeViews.{named_view, tree_view, trees_view}
 use Rattle.td_types.proofs.OutcomeLaws.{valued_is, values_of_both}
-use Rattle.td_types.specs.Headings.{are_distinct}
-use Rattle.td_types.specs.Types.{same_name}
+use Rattle.td_types.specs.model.Headings.{are_distinct}
+use Rattle.td_types.specs.model.Types.{same_name}
 use Rattle.td_value.proofs.HeadingOf.{zip-append}
 use Rattle.td_value.proofs.Zips.{zip_names}
-use Rattle.td_value.specs.Values.{Tuple, Val, tuple_names, tuple_of, tuple_value}
+use Rattle.td_value.specs.model.Values.{Tuple, Val, tuple_names, tuple_of, tuple_value}
 
 -- ---- lists of outcomes
 

@@ -1,16 +1,16 @@
 -- RELATION with a heading, whose elements have the same values in every world.
 use Rattle.std.proofs.Common.{◌≡◌, List, Result, Err, map, refl, subst}
 use Rattle.td_check.proofs.Gives.{answered_then}
-use Rattle.td_eval.specs.OperatorValues.{headed_value}
-use Rattle.td_eval.specs.TreeValues.{argument_values}
-use Rattle.td_eval.specs.Worlds.{World}
+use Rattle.td_eval.specs.model.OperatorValues.{headed_value}
+use Rattle.td_eval.specs.model.TreeValues.{argument_values}
+use Rattle.td_eval.specs.model.Worlds.{World}
 use Rattle.td_eval.specs.code.FixedValues.{AreFixed}
-use Rattle.td_tree.specs.Outcomes.{Answers, Outcome, Refused, Valued, with_both, with_value}
-use Rattle.td_tree.specs.Trees.{Trees}
+use Rattle.td_tree.specs.model.Outcomes.{Answers, Outcome, Refused, Valued, with_both, with_value}
+use Rattle.td_tree.specs.model.Trees.{Trees}
 use Rattle.td_tree.specs.declared.fault.Fault.{Fault}
 use Rattle.td_types.proofs.Resolutions.{answers_still}
-use Rattle.td_types.specs.Types.{Heading}
-use Rattle.td_value.specs.Values.{Tuple, Val, tuple_value}
+use Rattle.td_types.specs.model.Types.{Heading}
+use Rattle.td_value.specs.model.Values.{Tuple, Val, tuple_value}
 
 both_with : {A B C : Type 0} (o : Outcome A) (y : B) (f : A → B → Outcome C) → with_value o (λ x. f x y) ≡ with_both o (Valued y) f
 both_with (Valued x) y f = refl

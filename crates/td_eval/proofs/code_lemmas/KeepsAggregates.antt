@@ -4,27 +4,26 @@ use Rattle.std.specs.Prelude.{◌||◌, if◌then◌else◌}
 use Rattle.std.specs.List.{AllByRecursion, Contains, list_all}
 use Rattle.std.specs.Ordering.{is_lt}
 use Rattle.td_algebra.proofs.Members.{both_true}
-use Rattle.td_check.specs.OperatorTypes.{aggregate_type, over_relation, same_type}
+use Rattle.td_check.specs.model.OperatorTypes.{aggregate_type, over_relation, same_type}
 use Rattle.td_eval.proofs.code_lemmas.KeepsGathered.{gathered_map_keeps, keeps_type, one_dynamic, type_keeps, with_value_keeps}
 use Rattle.td_eval.proofs.code_lemmas.TypedRows.{parts_typed, rows_typed}
 use Rattle.td_eval.proofs.code_lemmas.TypedValues.{in_range_keeps, integer_of, relation_keeps, text_of, type_is}
-use Rattle.td_eval.specs.AggregateValues.{aggregate_of, aggregated_value, asked_of, is_number, is_number_or_text, takes}
-use Rattle.td_eval.specs.OperatorValues.{on_relation}
-use Rattle.td_eval.specs.ValueTypes.{IsOfType, IsTypedTuple, KeepsType}
-use Rattle.td_group.specs.Aggregates.{aggregate, greater, greatest_value, least_value, less, sum_of}
+use Rattle.td_eval.specs.model.AggregateValues.{aggregate_of, aggregated_value, asked_of, is_number, is_number_or_text, takes}
+use Rattle.td_eval.specs.model.OperatorValues.{on_relation}
+use Rattle.td_eval.specs.laws.ValueTypes.{IsOfType, IsTypedTuple, KeepsType}
+use Rattle.td_group.specs.model.Aggregates.{aggregate, greater, greatest_value, least_value, less, sum_of}
 use Rattle.td_group.specs.declared.aggregates.Agg.{Agg}
 use Rattle.td_group.specs.declared.aggregates.Agg.TheVariants as asked
 use Rattle.td_tree.specs.declared.cause.Cause.TheVariants as causes
 use Rattle.td_tree.specs.declared.operator.Aggregate.{Aggregate}
 use Rattle.td_tree.specs.declared.operator.Aggregate.TheVariants as aggregates
-use Rattle.td_tree.specs.Outcomes.{Outcome, Valued, Refused, gathered, value_if, with_value}
+use Rattle.td_tree.specs.model.Outcomes.{Outcome, Valued, Refused, gathered, value_if, with_value}
 use Rattle.td_types.proofs.OutcomeLaws.{value_of_test}
-use Rattle.td_types.specs.TypeLists.{DeclaredType}
-use Rattle.td_types.specs.Types.{Heading, Type', unpack}
-use Rattle.td_types.specs.Types as types
-use Rattle.td_value.specs.KnownValues.{HasType}
-use Rattle.td_value.specs.Values.{Val, of_number, relation, Relation, Rows, Tuple, heading_of, unpack_rows, value_cmp}
-use Rattle.td_value.specs.code.Views.{relation_view}
+use Rattle.td_types.specs.model.TypeLists.{DeclaredType}
+use Rattle.td_types.specs.model.Types.{Heading, Type', unpack}
+use Rattle.td_types.specs.model.Types as types
+use Rattle.td_value.specs.model.KnownValues.{HasType}
+use Rattle.td_value.specs.model.Values.{Val, of_number, relation, Relation, Rows, Tuple, heading_of, unpack_rows, value_cmp, relation_view}
 
 -- ---- the type of an aggregate of values of a type
 

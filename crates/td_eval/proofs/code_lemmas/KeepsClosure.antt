@@ -3,18 +3,18 @@ use Rattle.std.proofs.Common.{◌≡◌, ◌⊎◌, inl, inr, ℕ, zero, suc, tr
 use Rattle.std.specs.List.{Contains, flat_map}
 use Rattle.std.proofs.lemmas.List.Elements.{Contains-append_cases}
 use Rattle.td_algebra.proofs.Lists.{contains_filter, contains_flat_map, contains_map}
-use Rattle.td_check.specs.OperatorTypes.{closure_type}
+use Rattle.td_check.specs.model.OperatorTypes.{closure_type}
 use Rattle.td_eval.proofs.code_lemmas.KeepsRelations.{AreOwn, IsTypedRelation, type_if_keeps, typed_set}
-use Rattle.td_eval.specs.OperatorValues.{relation_where}
-use Rattle.td_eval.specs.ValueTypes.{KeepsType}
+use Rattle.td_eval.specs.model.OperatorValues.{relation_where}
+use Rattle.td_eval.specs.laws.ValueTypes.{KeepsType}
 use Rattle.td_group.proofs.ClosureLaws.{closure_is_relation}
-use Rattle.td_group.specs.Closure.{chained_tuple, chained_tuples, closure, is_followed_by}
+use Rattle.td_group.specs.model.Closure.{chained_tuple, chained_tuples, closure, is_followed_by}
 use Rattle.td_tree.specs.declared.cause.Cause.TheVariants as causes
-use Rattle.td_types.specs.Headings.{is_closable}
-use Rattle.td_types.specs.TypeLists.{DeclaredType}
-use Rattle.td_types.specs.Types.{pack}
-use Rattle.td_types.specs.Types as types
-use Rattle.td_value.specs.Values.{Relation, Tuple}
+use Rattle.td_types.specs.model.Headings.{is_closable}
+use Rattle.td_types.specs.model.TypeLists.{DeclaredType}
+use Rattle.td_types.specs.model.Types.{pack}
+use Rattle.td_types.specs.model.Types as types
+use Rattle.td_value.specs.model.Values.{Relation, Tuple}
 
 module _ (ds : List DeclaredType) where
   -- the tuple from one to another has values of both

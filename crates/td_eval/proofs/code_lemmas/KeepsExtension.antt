@@ -3,30 +3,30 @@ use Rattle.std.proofs.Common.{◌≡◌, ◌∙◌, ◌++◌, ◌⊎◌, inl, in
 use Rattle.std.specs.Prelude.{◌&&◌, if◌then◌else◌, not, ⊤}
 use Rattle.std.specs.List.{AllByRecursion, Contains, list_all}
 use Rattle.td_tree.specs.declared.cause.Cause.TheVariants as causes
-use Rattle.td_tree.specs.Names.{IsName}
-use Rattle.td_tree.specs.Outcomes.{Outcome, Valued, Refused, gathered, value_if, with_value}
-use Rattle.td_types.specs.Headings.{are_distinct, has_attribute, has_name, have_no_common, heading_union, outside, with_attribute}
-use Rattle.td_types.specs.TypeLists.{AreKnown, DeclaredType, IsKnown}
-use Rattle.td_types.specs.TypeOrder.{type_eq-Decides}
-use Rattle.td_types.specs.Types.{Attribute, Heading, IsType, Type', attribute_names, pack}
-use Rattle.td_types.specs.Types as types
+use Rattle.td_tree.specs.model.Names.{IsName}
+use Rattle.td_tree.specs.model.Outcomes.{Outcome, Valued, Refused, gathered, value_if, with_value}
+use Rattle.td_types.specs.model.Headings.{are_distinct, has_attribute, has_name, have_no_common, heading_union, outside, with_attribute}
+use Rattle.td_types.specs.model.TypeLists.{AreKnown, DeclaredType, IsKnown}
+use Rattle.td_types.specs.code.TypeOrder.{type_eq-Decides}
+use Rattle.td_types.specs.model.Types.{Attribute, Heading, IsType, Type', attribute_names, pack}
+use Rattle.td_types.specs.model.Types as types
 use Rattle.td_types.proofs.DistinctNames.{first_of, second_of}
 use Rattle.td_types.proofs.OutcomeLaws.{values_of_both}
-use Rattle.td_check.specs.OperatorTypes.{extension_type, relation_if, setting_type}
+use Rattle.td_check.specs.model.OperatorTypes.{extension_type, relation_if, setting_type}
 use Rattle.td_check.proofs.HeadingRules.{lacks_with}
 use Rattle.td_check.proofs.KnownLaws.{IsKnownType, known_closed}
 use Rattle.td_check.proofs.OperatorLaws.{united}
-use Rattle.td_value.specs.KnownValues.{HasType}
-use Rattle.td_value.specs.Values.{Val, boolean, integer, char, relation_value, user, tuple, relation, Relation, Tuple, type_of}
+use Rattle.td_value.specs.model.KnownValues.{HasType}
+use Rattle.td_value.specs.model.Values.{Val, boolean, integer, char, relation_value, user, tuple, relation, Relation, Tuple, type_of}
 use Rattle.td_value.proofs.KnownValues.{has_its_type}
-use Rattle.td_algebra.specs.Membership.{AreNew}
-use Rattle.td_algebra.specs.Operators.{Addition, added_attributes, added_values, extended_relation, extended_tuple, restriction, set_relation, set_tuple}
-use Rattle.td_algebra.specs.Results.{IsTyped}
+use Rattle.td_algebra.specs.laws.Membership.{AreNew}
+use Rattle.td_algebra.specs.model.Operators.{Addition, added_attributes, added_values, extended_relation, extended_tuple, restriction, set_relation, set_tuple}
+use Rattle.td_algebra.specs.laws.Results.{IsTyped}
 use Rattle.td_algebra.proofs.Lists.{contains_cases, contains_map, contains_none}
 use Rattle.td_algebra.proofs.Members.{both_true, first_true, second_true}
 use Rattle.td_algebra.proofs.Results.{IsRelation-extended, IsRelation-set}
-use Rattle.td_eval.specs.OperatorValues.{additions_of, columns_values, extended_by_settings, extended_value, is_true, of_relation, on_truth, restricted_value, truth_value, value_of_type, value_or_false}
-use Rattle.td_eval.specs.ValueTypes.{IsOfType, KeepsType}
+use Rattle.td_eval.specs.model.OperatorValues.{additions_of, columns_values, extended_by_settings, extended_value, is_true, of_relation, on_truth, restricted_value, truth_value, value_of_type, value_or_false}
+use Rattle.td_eval.specs.laws.ValueTypes.{IsOfType, KeepsType}
 use Rattle.td_eval.proofs.code_lemmas.KeepsGathered.{Keeps, gathered_dynamic, gathered_map_keeps, keeps_type, with_value_keeps}
 use Rattle.td_eval.proofs.code_lemmas.KeepsOperators.{typed_restriction}
 use Rattle.td_eval.proofs.code_lemmas.KeepsRelations.{AreOwn, IsOwn, IsTypedRelation, all_filtered, all_joined, all_made, typed_from_value, typed_heading, typed_set, value_from_typed}

@@ -3,12 +3,12 @@ use Rattle.std.proofs.Common.{◌≡◌, ◌⊎◌, inl, inr, List, [], ◌∷�
 use Rattle.std.specs.Prelude.{◌↔◌}
 use Rattle.std.specs.List.{AllByRecursion, Contains}
 use Rattle.td_tree.specs.declared.cause.Cause.{Cause}
-use Rattle.td_tree.specs.Outcomes.{Causes, Only, Union, Outcome, Valued, Refused, gathered, with_value, with_both}
-use Rattle.td_types.specs.TypeLists.{DeclaredType}
-use Rattle.td_types.specs.Types.{Attrs, Type'}
-use Rattle.td_value.specs.KnownValues.{HasHeading, HaveHeading}
-use Rattle.td_value.specs.Values.{Tuple, Val, pack_fields, pack_rows}
-use Rattle.td_eval.specs.ValueTypes.{AreDynamic, IsDynamic, IsOfType, KeepsType}
+use Rattle.td_tree.specs.model.Outcomes.{Causes, Only, Union, Outcome, Valued, Refused, gathered, with_value, with_both}
+use Rattle.td_types.specs.model.TypeLists.{DeclaredType}
+use Rattle.td_types.specs.model.Types.{Attrs, Type'}
+use Rattle.td_value.specs.model.KnownValues.{HasHeading, HaveHeading}
+use Rattle.td_value.specs.model.Values.{Tuple, Val, pack_fields, pack_rows}
+use Rattle.td_eval.specs.laws.ValueTypes.{AreDynamic, IsDynamic, IsOfType, KeepsType}
 use Rattle.td_algebra.proofs.Lists.{contains_cases, contains_first, contains_later, contains_none}
 
 -- a value that has the property, or dynamic causes

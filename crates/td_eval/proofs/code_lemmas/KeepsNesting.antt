@@ -2,10 +2,9 @@
 use Rattle.std.proofs.Common.{◌≡◌, ◌∙◌, ◌++◌, ℕ, Bool, true, false, List, [], ◌∷◌, ap, map, refl, subst, sym}
 use Rattle.std.specs.List.{Contains}
 use Rattle.std.specs.Prelude.{◌&&◌, if◌then◌else◌, not}
-use Rattle.td_algebra.specs.Columns.{new_attribute}
-use Rattle.td_algebra.specs.Operators.{projected_relation, restriction}
-use Rattle.td_check.specs.OperatorTypes.{named_part, relation_if}
-use Rattle.td_check.specs.StaticLaws.{IsKnownHeading}
+use Rattle.td_algebra.specs.model.Operators.{projected_relation, restriction, new_attribute}
+use Rattle.td_check.specs.model.OperatorTypes.{named_part, relation_if}
+use Rattle.td_check.specs.laws.StaticLaws.{IsKnownHeading}
 use Rattle.td_check.proofs.KnownLaws.{known_closed}
 use Rattle.td_eval.proofs.code_lemmas.KeepsExtension.{typed_extended}
 use Rattle.td_eval.proofs.code_lemmas.KeepsOperators.{typed_projected, typed_restriction}
@@ -19,21 +18,21 @@ use Rattle.td_check.proofs.OperatorLaws.{united}
 use Rattle.td_eval.proofs.code_lemmas.KeepsGathered.{member_from_all}
 use Rattle.td_eval.proofs.code_lemmas.KeepsRelations.{AreOwn, IsOwn, IsTypedRelation, all_filtered, all_joined, all_made, typed_heading, typed_set, value_from_typed}
 use Rattle.td_eval.proofs.code_lemmas.NestedNames.{IsNamed, nest_test, part_is_named, rest_named, rest_told}
-use Rattle.td_eval.specs.OperatorValues.{nested_names, of_relation}
-use Rattle.td_eval.specs.ValueTypes.{IsOfType, KeepsType}
-use Rattle.td_group.specs.Nesting.{can_nest, group_of, grouped_relation, rest_heading, rest_names, wrapped_relation, wrapped_tuple}
+use Rattle.td_eval.specs.model.OperatorValues.{nested_names, of_relation}
+use Rattle.td_eval.specs.laws.ValueTypes.{IsOfType, KeepsType}
+use Rattle.td_group.specs.model.Nesting.{can_nest, group_of, grouped_relation, rest_heading, rest_names, wrapped_relation, wrapped_tuple}
 use Rattle.td_tree.specs.declared.cause.Cause.TheVariants as causes
-use Rattle.td_tree.specs.Names.{IsName}
-use Rattle.td_tree.specs.Outcomes.{Outcome, Valued, Refused, value_if, with_value}
-use Rattle.td_tree.specs.Trees.{Attributes}
-use Rattle.td_types.specs.Headings.{extended_heading, has_attribute, has_name, heading_union, outside, projection, with_attribute}
+use Rattle.td_tree.specs.model.Names.{IsName}
+use Rattle.td_tree.specs.model.Outcomes.{Outcome, Valued, Refused, value_if, with_value}
+use Rattle.td_tree.specs.model.Trees.{Attributes}
+use Rattle.td_types.specs.model.Headings.{extended_heading, has_attribute, has_name, heading_union, outside, projection, with_attribute}
 use Rattle.td_types.proofs.HeadingLaws.{ascending_from_heading}
-use Rattle.td_types.specs.TypeLists.{AreKnown, DeclaredType}
-use Rattle.td_types.specs.Types.{Heading, IsHeading, Type', attribute_names, pack}
-use Rattle.td_types.specs.Types as types
-use Rattle.td_value.specs.Agreement.{agree_on}
-use Rattle.td_value.specs.KnownValues.{HasType}
-use Rattle.td_value.specs.Values.{IsRelation, IsTupleOf, Relation, Tuple, projected_tuple, relation_of, relation_value, tuple_value}
+use Rattle.td_types.specs.model.TypeLists.{AreKnown, DeclaredType}
+use Rattle.td_types.specs.model.Types.{Heading, IsHeading, Type', attribute_names, pack}
+use Rattle.td_types.specs.model.Types as types
+use Rattle.td_value.specs.model.Agreement.{agree_on}
+use Rattle.td_value.specs.model.KnownValues.{HasType}
+use Rattle.td_value.specs.model.Values.{IsRelation, IsTupleOf, Relation, Tuple, projected_tuple, relation_of, relation_value, tuple_value}
 use Rattle.td_value.proofs.KnownValues.{by_values, has_its_type}
 
 -- ---- attributes that are put into a new one

@@ -6,26 +6,26 @@ use Rattle.std.proofs.lemmas.List.Elements.{Contains-append_cases}
 use Rattle.td_tree.specs.declared.cause.Cause.{Cause}
 use Rattle.td_tree.specs.declared.cause.Cause.TheVariants as causes
 use Rattle.td_tree.specs.declared.operator.Operator.TheVariants as operators
-use Rattle.td_tree.specs.Outcomes.{Outcome, value_if, with_value}
-use Rattle.td_types.specs.Headings.{agree, common_part, has_attribute, has_name, have_no_common, heading_union, outside, projection}
-use Rattle.td_types.specs.TypeLists.{AreKnown, DeclaredType}
-use Rattle.td_types.specs.TypeOrder.{heading_eq-Decides}
-use Rattle.td_types.specs.Types.{Attribute, Heading, IsAscending, Type', pack, type_at}
-use Rattle.td_types.specs.Types as types
+use Rattle.td_tree.specs.model.Outcomes.{Outcome, value_if, with_value}
+use Rattle.td_types.specs.model.Headings.{agree, common_part, has_attribute, has_name, have_no_common, heading_union, outside, projection}
+use Rattle.td_types.specs.model.TypeLists.{AreKnown, DeclaredType}
+use Rattle.td_types.specs.code.TypeOrder.{heading_eq-Decides}
+use Rattle.td_types.specs.model.Types.{Attribute, Heading, IsAscending, Type', pack, type_at}
+use Rattle.td_types.specs.model.Types as types
 use Rattle.td_types.proofs.HeadingLaws.{IsAscending-filter, ascending_from_heading, type_at-common, type_at-outside, types_determine_heading}
-use Rattle.td_check.specs.OperatorTypes.{operator_type, same_heading}
-use Rattle.td_check.specs.StaticLaws.{IsKnownHeading}
+use Rattle.td_check.specs.model.OperatorTypes.{operator_type, same_heading}
+use Rattle.td_check.specs.laws.StaticLaws.{IsKnownHeading}
 use Rattle.td_check.proofs.KnownLaws.{known_closed}
 use Rattle.td_check.proofs.OperatorLaws.{all_fit, united}
-use Rattle.td_value.specs.Values.{Val, Relation, Tuple, projected_tuple, relation_value, tuple_names}
-use Rattle.td_algebra.specs.Operators.{are_partners, composition, difference, intersection, is_disjoint, is_subset, join, own_names, product, projected_relation, restriction, semidifference, semijoin, union, united_tuple}
+use Rattle.td_value.specs.model.Values.{Val, Relation, Tuple, projected_tuple, relation_value, tuple_names}
+use Rattle.td_algebra.specs.model.Operators.{are_partners, composition, difference, intersection, is_disjoint, is_subset, join, own_names, product, projected_relation, restriction, semidifference, semijoin, union, united_tuple}
 use Rattle.td_algebra.proofs.Composed.{composed_heading_is}
 use Rattle.td_algebra.proofs.Lists.{contains_filter, contains_flat_map, contains_map}
 use Rattle.td_algebra.proofs.Relations.{IsRelation-restriction}
 use Rattle.td_algebra.proofs.Results.{IsRelation-projected, IsRelation-union, IsRelation-united}
 use Rattle.td_algebra.proofs.United.{others}
-use Rattle.td_eval.specs.OperatorValues.{disjoint_union, included_difference, of_relation, operator_value}
-use Rattle.td_eval.specs.ValueTypes.{IsDynamic, IsOfType, KeepsType}
+use Rattle.td_eval.specs.model.OperatorValues.{disjoint_union, included_difference, of_relation, operator_value}
+use Rattle.td_eval.specs.laws.ValueTypes.{IsDynamic, IsOfType, KeepsType}
 use Rattle.td_eval.proofs.code_lemmas.KeepsGathered.{Keeps, keeps_type, one_dynamic, with_value_keeps}
 use Rattle.td_eval.proofs.code_lemmas.KeepsRelations.{AreOwn, IsOwn, IsTypedRelation, all_filtered, all_joined, all_made, heading_if_keeps, made_if_keeps, over_relations_keeps, type_if_keeps, typed_heading, typed_set, value_from_typed}
 

@@ -3,31 +3,31 @@ use Rattle.std.proofs.Common.{ℕ, List, [], ◌∷◌, map, refl, subst}
 use Rattle.std.specs.Prelude.{IsTrue}
 use Rattle.std.specs.List.{AllByRecursion}
 use Rattle.std.proofs.lemmas.List.Elements.{All-from_recursion}
-use Rattle.td_tree.specs.Names.{IsName}
+use Rattle.td_tree.specs.model.Names.{IsName}
 use Rattle.td_tree.specs.declared.cause.Cause.TheVariants as causes
-use Rattle.td_tree.specs.Trees.{Attributes, only, all_but, Renaming, Postfix, project, rename, group, ungroup, wrap, unwrap}
-use Rattle.td_types.specs.Headings.{can_rename, has_projection, heading_union, new_name, outside, projection, renamed_attributes}
-use Rattle.td_types.specs.TypeLists.{DeclaredType}
-use Rattle.td_types.specs.Types.{Heading, Type', attribute_names, pack}
-use Rattle.td_types.specs.Types as types
+use Rattle.td_tree.specs.model.Trees.{Attributes, only, all_but, Renaming, Postfix, project, rename, group, ungroup, wrap, unwrap}
+use Rattle.td_types.specs.model.Headings.{can_rename, has_projection, heading_union, new_name, outside, projection, renamed_attributes}
+use Rattle.td_types.specs.model.TypeLists.{DeclaredType}
+use Rattle.td_types.specs.model.Types.{Heading, Type', attribute_names, pack}
+use Rattle.td_types.specs.model.Types as types
 use Rattle.td_types.proofs.HeadingLaws.{ascending_from_heading}
-use Rattle.td_check.specs.OperatorTypes.{named_part, postfix_type, relation_if, renaming_pairs}
+use Rattle.td_check.specs.model.OperatorTypes.{named_part, postfix_type, relation_if, renaming_pairs}
 use Rattle.td_check.proofs.KnownLaws.{known_closed}
 use Rattle.td_check.proofs.OperatorLaws.{all_fit, renamed_fit, united}
-use Rattle.td_value.specs.Values.{Val, Relation, Tuple}
-use Rattle.td_algebra.specs.Operators.{projected_relation, renamed_relation, renamed_tuple}
-use Rattle.td_algebra.specs.Results.{NewNamesAreNames}
+use Rattle.td_value.specs.model.Values.{Val, Relation, Tuple}
+use Rattle.td_algebra.specs.model.Operators.{projected_relation, renamed_relation, renamed_tuple}
+use Rattle.td_algebra.specs.laws.Results.{NewNamesAreNames}
 use Rattle.td_algebra.proofs.Lists.{contains_map}
 use Rattle.td_algebra.proofs.Results.{IsRelation-renamed}
-use Rattle.td_eval.specs.OperatorValues.{listed_names, postfix_value, projected_names, relation_where}
-use Rattle.td_eval.specs.ValueTypes.{IsOfType, KeepsType}
+use Rattle.td_eval.specs.model.OperatorValues.{listed_names, postfix_value, projected_names, relation_where}
+use Rattle.td_eval.specs.laws.ValueTypes.{IsOfType, KeepsType}
 use Rattle.td_eval.proofs.code_lemmas.KeepsNesting.{grouped_made, nest_keeps, wrapped_made}
 use Rattle.td_eval.proofs.code_lemmas.KeepsOperators.{typed_projected}
 use Rattle.td_eval.proofs.code_lemmas.KeepsRelations.{AreOwn, IsOwn, IsTypedRelation, all_made, heading_if_keeps, made_if_keeps, over_relation_keeps, typed_heading, typed_set}
 use Rattle.td_eval.proofs.code_lemmas.KeepsUnnesting.{ungroup_keeps, unwrap_keeps}
 use Rattle.td_eval.proofs.code_lemmas.NestedNames.{rest_named}
-use Rattle.td_group.specs.Nesting.{grouped_relation, wrapped_relation}
-use Rattle.td_tree.specs.WrittenTrees.{OperatorGivesNames}
+use Rattle.td_group.specs.model.Nesting.{grouped_relation, wrapped_relation}
+use Rattle.td_tree.specs.model.WrittenTrees.{OperatorGivesNames}
 
 -- ---- projection
 

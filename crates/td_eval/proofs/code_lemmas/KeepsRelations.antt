@@ -4,23 +4,22 @@ use Rattle.std.specs.List.{AllByRecursion, Contains}
 use Rattle.std.specs.declared.cmp.Ordering.{Ordering}
 use Rattle.std.specs.declared.cmp.Ordering.TheVariants.{Less, Equal, Greater}
 use Rattle.td_tree.specs.declared.cause.Cause.{Cause}
-use Rattle.td_tree.specs.Outcomes.{Outcome, Valued, value_if, with_value}
-use Rattle.td_types.specs.TypeLists.{AreKnown, DeclaredType}
-use Rattle.td_types.specs.Types.{Attrs, Heading, Type', pack, unpack}
-use Rattle.td_types.specs.Types as types
+use Rattle.td_tree.specs.model.Outcomes.{Outcome, Valued, value_if, with_value}
+use Rattle.td_types.specs.model.TypeLists.{AreKnown, DeclaredType}
+use Rattle.td_types.specs.model.Types.{Attrs, Heading, Type', pack, unpack}
+use Rattle.td_types.specs.model.Types as types
 use Rattle.td_types.proofs.Meanings.{pack_unpack}
-use Rattle.td_check.specs.OperatorTypes.{mismatch, over_relation, over_relations, relation_if}
-use Rattle.td_check.specs.StaticLaws.{IsKnownHeading}
-use Rattle.td_value.specs.KnownValues.{HasHeading, HasType}
-use Rattle.td_value.specs.Sets.{put_in}
-use Rattle.td_value.specs.Values.{Val, boolean, integer, char, relation_value, user, tuple, relation, Rows, IsRelation, Relation, Tuple, entry_cmp, pack_fields, pack_rows, relation_of, tuple_of, type_of, unpack_rows}
-use Rattle.td_value.specs.code.Views.{relation_view}
+use Rattle.td_check.specs.model.OperatorTypes.{mismatch, over_relation, over_relations, relation_if}
+use Rattle.td_check.specs.laws.StaticLaws.{IsKnownHeading}
+use Rattle.td_value.specs.model.KnownValues.{HasHeading, HasType}
+use Rattle.td_value.specs.model.Sets.{put_in}
+use Rattle.td_value.specs.model.Values.{Val, boolean, integer, char, relation_value, user, tuple, relation, Rows, IsRelation, Relation, Tuple, entry_cmp, pack_fields, pack_rows, relation_of, tuple_of, type_of, unpack_rows, relation_view}
 use Rattle.td_value.proofs.KnownValues.{by_values}
 use Rattle.td_value.proofs.Members.{set_members}
 use Rattle.td_value.proofs.Packed.{pack_unpack_rows}
 use Rattle.td_algebra.proofs.Relations.{member_headed}
-use Rattle.td_eval.specs.OperatorValues.{on_relation, on_relations, relation_where}
-use Rattle.td_eval.specs.ValueTypes.{IsOfType, KeepsType}
+use Rattle.td_eval.specs.model.OperatorValues.{on_relation, on_relations, relation_where}
+use Rattle.td_eval.specs.laws.ValueTypes.{IsOfType, KeepsType}
 use Rattle.td_eval.proofs.code_lemmas.KeepsGathered.{all_from_members, has_type_members, member_from_all}
 
 module _ (ds : List DeclaredType) where

@@ -2,31 +2,30 @@
 use Rattle.std.proofs.Common.{◌≡◌, ◌∙◌, ℕ, true, List, [], ◌∷◌, Option, Some, None, ap, map, refl, subst, sym}
 use Rattle.std.specs.Prelude.{⊤}
 use Rattle.std.specs.List.{AllByRecursion, Contains}
-use Rattle.td_check.specs.OperatorTypes.{Item, count_item, aggregate_item, aggregate_type, extension_type, item_type, named_part, per_heading, relation_if}
-use Rattle.td_check.specs.StaticTypes.{with_items}
+use Rattle.td_check.specs.model.OperatorTypes.{Item, count_item, aggregate_item, aggregate_type, extension_type, item_type, named_part, per_heading, relation_if}
+use Rattle.td_check.specs.model.StaticTypes.{with_items}
 use Rattle.td_check.proofs.KnownLaws.{IsKnownType, known_closed}
 use Rattle.td_check.proofs.OperatorLaws.{Gives, ItemFits, aggregate_gives, gives_all, gives_with}
 use Rattle.td_check.proofs.SummaryLaws.{HeadingItems, Items}
 use Rattle.td_group.specs.declared.aggregates.Agg.{Agg}
 use Rattle.td_group.specs.declared.aggregates.Agg.TheVariants as asked
-use Rattle.td_group.specs.Groups.{groups}
+use Rattle.td_group.specs.model.Groups.{groups}
 use Rattle.td_tree.specs.declared.cause.Cause.TheVariants as causes
-use Rattle.td_tree.specs.Names.{IsName}
-use Rattle.td_tree.specs.Outcomes.{Outcome, Valued, Refused, gathered, value_if, with_both, with_value}
-use Rattle.td_tree.specs.Trees.{Attributes, project}
-use Rattle.td_types.specs.Headings.{is_part}
+use Rattle.td_tree.specs.model.Names.{IsName}
+use Rattle.td_tree.specs.model.Outcomes.{Outcome, Valued, Refused, gathered, value_if, with_both, with_value}
+use Rattle.td_tree.specs.model.Trees.{Attributes, project}
+use Rattle.td_types.specs.model.Headings.{is_part}
 use Rattle.td_types.specs.code.TypeCode.{unpack_pack}
-use Rattle.td_types.specs.TypeLists.{DeclaredType, IsKnown}
-use Rattle.td_types.specs.Types.{Attribute, Heading, IsHeading, IsType, Type', boolean, char, integer, pack, relation, tuple, unpack, user}
+use Rattle.td_types.specs.model.TypeLists.{DeclaredType, IsKnown}
+use Rattle.td_types.specs.model.Types.{Attribute, Heading, IsHeading, IsType, Type', boolean, char, integer, pack, relation, tuple, unpack, user}
 use Rattle.td_types.proofs.Meanings.{pack_unpack}
 use Rattle.td_types.proofs.OutcomeLaws.{value_of_test, value_of_with, valued_is, values_of_both}
-use Rattle.td_value.specs.Values.{Val, Relation, Tuple, relation_value, unpack_rows}
-use Rattle.td_value.specs.code.Views.{relation_view}
+use Rattle.td_value.specs.model.Values.{Val, Relation, Tuple, relation_value, unpack_rows, relation_view}
 use Rattle.td_value.proofs.KnownValues.{has_its_type}
 use Rattle.td_value.proofs.Typed.{typed}
-use Rattle.td_eval.specs.AggregateValues.{Summand, asked_of, group_values, group_with, summarized_value, summary_in, summary_value}
-use Rattle.td_eval.specs.OperatorValues.{extended_value, on_relation, postfix_value}
-use Rattle.td_eval.specs.ValueTypes.{IsOfType, KeepsType}
+use Rattle.td_eval.specs.model.AggregateValues.{Summand, asked_of, group_values, group_with, summarized_value, summary_in, summary_value}
+use Rattle.td_eval.specs.model.OperatorValues.{extended_value, on_relation, postfix_value}
+use Rattle.td_eval.specs.laws.ValueTypes.{IsOfType, KeepsType}
 use Rattle.td_eval.proofs.code_lemmas.KeepsAggregates.{GivesOf, aggregated_keeps, gives_of}
 use Rattle.td_eval.proofs.code_lemmas.KeepsExtension.{PartsKeep, extended_keeps}
 use Rattle.td_eval.proofs.code_lemmas.KeepsGathered.{Keeps, gathered_dynamic, gathered_map_keeps, keeps_type, type_keeps, with_value_keeps}

@@ -4,23 +4,23 @@ use Rattle.std.specs.Prelude.{if◌then◌else◌, not}
 use Rattle.std.specs.List.{Contains, flat_map}
 use Rattle.td_algebra.proofs.Lists.{contains_cases, contains_flat_map, contains_map, contains_none}
 use Rattle.td_algebra.proofs.Relations.{IsRelation-relation_of, rows_headed}
-use Rattle.td_check.specs.OperatorTypes.{attribute_type, joined_apart, known_or, over_relation, over_tuple, relation_if}
-use Rattle.td_check.specs.StaticLaws.{IsKnownHeading}
+use Rattle.td_check.specs.model.OperatorTypes.{attribute_type, joined_apart, known_or, over_relation, over_tuple, relation_if}
+use Rattle.td_check.specs.laws.StaticLaws.{IsKnownHeading}
 use Rattle.td_check.proofs.KnownLaws.{known_closed}
 use Rattle.td_check.proofs.OperatorLaws.{all_fit, type_fits, united}
 use Rattle.td_eval.proofs.code_lemmas.KeepsRelations.{AreOwn, IsOwn, IsTypedRelation, all_filtered, all_joined, all_made, heading_if_keeps, typed_heading, typed_set}
-use Rattle.td_eval.specs.OperatorValues.{relation_where}
-use Rattle.td_eval.specs.ValueTypes.{KeepsType}
+use Rattle.td_eval.specs.model.OperatorValues.{relation_where}
+use Rattle.td_eval.specs.laws.ValueTypes.{KeepsType}
 use Rattle.td_group.proofs.Nested.{unnested_headed}
-use Rattle.td_group.specs.Nesting.{can_unnest, inner_heading, heading_inside, other_names, tuples_inside, unnested_relation, unnested_tuples}
+use Rattle.td_group.specs.model.Nesting.{can_unnest, inner_heading, heading_inside, names_without, tuples_inside, unnested_relation, unnested_tuples}
 use Rattle.td_tree.specs.declared.cause.Cause.TheVariants as causes
-use Rattle.td_tree.specs.Outcomes.{Outcome, with_value}
-use Rattle.td_types.specs.Headings.{has_name, heading_union, without_attribute}
-use Rattle.td_types.specs.TypeLists.{DeclaredType}
-use Rattle.td_types.specs.Types.{Attrs, Heading, Type', attr, no_attrs, same_name, type_at, unpack}
-use Rattle.td_types.specs.Types as types
-use Rattle.td_value.specs.KnownValues.{HasHeading, HasType, HaveHeading}
-use Rattle.td_value.specs.Values.{Val, boolean, integer, char, user, tuple, relation, Fields, no_fields, field, Rows, no_rows, row, Relation, Tuple, projected_tuple, tuple_of, type_of, unpack_fields, unpack_rows, value_at}
+use Rattle.td_tree.specs.model.Outcomes.{Outcome, with_value}
+use Rattle.td_types.specs.model.Headings.{has_name, heading_union, without_attribute}
+use Rattle.td_types.specs.model.TypeLists.{DeclaredType}
+use Rattle.td_types.specs.model.Types.{Attrs, Heading, Type', attr, no_attrs, same_name, type_at, unpack}
+use Rattle.td_types.specs.model.Types as types
+use Rattle.td_value.specs.model.KnownValues.{HasHeading, HasType, HaveHeading}
+use Rattle.td_value.specs.model.Values.{Val, boolean, integer, char, user, tuple, relation, Fields, no_fields, field, Rows, no_rows, row, Relation, Tuple, projected_tuple, tuple_of, type_of, unpack_fields, unpack_rows, value_at}
 use Rattle.td_value.proofs.KnownValues.{has_its_type}
 
 module _ (ds : List DeclaredType) where
@@ -73,12 +73,12 @@ module _ (ds : List DeclaredType) where
     own_unnested : (y : Tuple) → Contains (flat_map (unnested_tuples name r) r.body) y → AreOwn ds y
     own_unnested y c =
         let d = (contains_flat_map (unnested_tuples name r) r.body y).0 c in
-        let e = (contains_map (λ x. tuple_of (projected_tuple (other_names name r) d.0 ++ x)) (tuples_inside (value_at name d.0)) y).0 d.2 in
+        let e = (contains_map (λ x. tuple_of (projected_tuple (names_without name r) d.0 ++ x)) (tuples_inside (value_at name d.0)) y).0 d.2 in
         let own = m.rows d.0 d.1 in
         subst (AreOwn ds) e.2
-        (all_made (IsOwn ds) (projected_tuple (other_names name r) d.0 ++ e.0)
-        (all_joined (IsOwn ds) (projected_tuple (other_names name r) d.0) e.0
-        (all_filtered (IsOwn ds) (λ f. has_name f.0 (other_names name r)) d.0 own) (own_part name d.0 own e.0 e.1)))
+        (all_made (IsOwn ds) (projected_tuple (names_without name r) d.0 ++ e.0)
+        (all_joined (IsOwn ds) (projected_tuple (names_without name r) d.0) e.0
+        (all_filtered (IsOwn ds) (λ f. has_name f.0 (names_without name r)) d.0 own) (own_part name d.0 own e.0 e.1)))
 
     typed_unnested : IsKnownHeading ds (inner_heading name r.heading) → can_unnest name r.heading ≡ true → IsTypedRelation ds (unnested_relation name r)
     typed_unnested inner can =

@@ -5,17 +5,17 @@ use Rattle.std.specs.List.{slice_get}
 use Rattle.std.proofs.lemmas.List.Recursion.{max_bounds}
 use Rattle.std.proofs.Math.Nat.{zero-max}
 use Rattle.std.specs.Prelude.{max}
-use Rattle.td_catalog.specs.Database.{VirtualRelvar}
-use Rattle.td_eval.specs.declared.sight.Sight.{Sight}
-use Rattle.td_eval.specs.code.Sights.{virtuals_of}
+use Rattle.td_catalog.specs.model.Database.{VirtualRelvar}
+use Rattle.td_eval.specs.declared.lent_world.LentWorld.{LentWorld}
+use Rattle.td_eval.specs.code.LentWorlds.{virtuals_of}
 use Rattle.td_tree.specs.declared.expression.Expr.{Expr}
 use Rattle.td_tree.specs.declared.expression.NamedExpr.{NamedExpr}
 use Rattle.td_tree.specs.declared.expression.Summary.{Summary}
 use Rattle.td_tree.specs.declared.expression.Summary.TheVariants as summaries
-use Rattle.td_tree.specs.Heights.{height, highest, highest_named, highest_summary}
-use Rattle.td_tree.specs.Trees.{Tree}
+use Rattle.td_tree.specs.model.Heights.{height, highest, highest_named, highest_summary}
+use Rattle.td_tree.specs.model.Trees.{Tree}
 use Rattle.td_tree.specs.code.TreeViews.{named_view, summaries_view, tree_view, trees_view}
-use Rattle.td_types.specs.TypeLists.{DeclaredType}
+use Rattle.td_types.specs.model.TypeLists.{DeclaredType}
 
 -- the height of an expression, if there is one
 abbrev pub height_if : Option Tree → ℕ
@@ -34,9 +34,9 @@ weights h [] = zero
 weights h (x ∷ xs) = 8 * h x + 2 + weights h xs
 
 -- what the selectors and the virtual relvars that are seen weigh
-abbrev pub weight : {B : Type 0} → Sight B → ℕ
-weight sight =
-    weights constraint_height (take sight.selectors sight.types.now) + weights tree_height (take sight.virtuals (virtuals_of sight))
+abbrev pub weight : {B : Type 0} → LentWorld B → ℕ
+weight lent =
+    weights constraint_height (take lent.selectors lent.types.now) + weights tree_height (take lent.virtuals (virtuals_of lent))
 
 -- an entry weighs more than its height, beside those before it
 pub weight_before : {X : Type 0} (h : X → ℕ) (xs : List X) (place count : ℕ) (x : X) → slice_get xs place ≡ Some x → place < count

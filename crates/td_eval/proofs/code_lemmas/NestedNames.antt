@@ -1,20 +1,20 @@
 -- The attributes that are put into one, and the names that tell them.
 use Rattle.std.proofs.Common.{◌≡◌, ◌∙◌, ℕ, Bool, true, false, Err, List, None, Option, Some, ap, refl, subst, sym}
 use Rattle.std.specs.Prelude.{◌&&◌, filter, if◌then◌else◌, is_some, not}
-use Rattle.td_check.specs.OperatorTypes.{named_part}
+use Rattle.td_check.specs.model.OperatorTypes.{named_part}
 use Rattle.td_eval.proofs.code_lemmas.OpHeadings.{kept_projected}
-use Rattle.td_eval.specs.OperatorValues.{nested_names}
-use Rattle.td_group.specs.Nesting.{can_nest, rest_names}
+use Rattle.td_eval.specs.model.OperatorValues.{nested_names}
+use Rattle.td_group.specs.model.Nesting.{can_nest, rest_names}
 use Rattle.td_tree.specs.declared.cause.Cause.TheVariants as causes
 use Rattle.td_tree.specs.declared.fault.Fault.{Fault}
 use Rattle.td_tree.specs.declared.fault.Fault.TheVariants as faults
-use Rattle.td_tree.specs.Outcomes.{Answers, Valued, named_cause, value_if, with_value}
-use Rattle.td_tree.specs.Trees.{Attributes, only, all_but}
-use Rattle.td_types.specs.Headings.{has_attribute, has_name, has_projection, outside, projected_heading, projection}
-use Rattle.td_types.specs.Types.{Heading, IsAscending, IsHeading, Type', attribute_names, pack, type_at}
+use Rattle.td_tree.specs.model.Outcomes.{Answers, Valued, named_cause, value_if, with_value}
+use Rattle.td_tree.specs.model.Trees.{Attributes, only, all_but}
+use Rattle.td_types.specs.model.Headings.{has_attribute, has_name, has_projection, outside, projected_heading, projection}
+use Rattle.td_types.specs.model.Types.{Heading, IsAscending, IsHeading, Type', attribute_names, pack, type_at}
 use Rattle.td_types.proofs.HeadingLaws.{IsAscending-filter, IsAscending-projection, IsHeading-filter, ascending_from_heading, has_attribute-names, type_at-filter, type_at-projection, types_determine_heading}
 use Rattle.td_types.proofs.OutcomeLaws.{valued_is, value_of_test, value_of_with}
-use Rattle.td_value.specs.Values.{Relation}
+use Rattle.td_value.specs.model.Values.{Relation}
 
 -- the attributes of a heading that pass a test of their names are those of their names
 pub kept_named : (f : List ℕ → Bool) (h : Heading) → IsAscending h

@@ -2,12 +2,12 @@
 use Rattle.std.proofs.Common.{◌≡◌, ◌∷◌, ℕ, Bool, true, false, List, [], Some, ap, map, refl}
 use Rattle.std.specs.Prelude.{◌&&◌, not}
 use Rattle.std.specs.List.{list_all}
-use Rattle.td_check.specs.OperatorTypes.{extended_by}
+use Rattle.td_check.specs.model.OperatorTypes.{extended_by}
 use Rattle.td_tree.specs.declared.cause.Cause.TheVariants as causes
-use Rattle.td_tree.specs.Outcomes.{Valued, named_cause, with_value}
+use Rattle.td_tree.specs.model.Outcomes.{Valued, named_cause, with_value}
 use Rattle.td_types.specs.declared.ty.Ty.{Ty}
-use Rattle.td_types.specs.Headings.{are_distinct, has_attribute}
-use Rattle.td_types.specs.Types.{Attribute, Heading, attribute_names}
+use Rattle.td_types.specs.model.Headings.{are_distinct, has_attribute}
+use Rattle.td_types.specs.model.Types.{Attribute, Heading, attribute_names}
 use Rattle.td_types.specs.code.Views.{pairs_view}
 
 -- the names of attributes are those of their pairs

@@ -4,19 +4,19 @@ use Rattle.std.specs.declared.rc.Rc.{Rc}
 use Rattle.std.specs.Prelude.{◌↔◌, IsTrue}
 use Rattle.std.proofs.lemmas.Cmp.{eq_by_cmp_equiv}
 use Rattle.std.specs.Ordering.{eq_by_cmp}
-use Rattle.td_algebra.specs.Operators.{is_subset}
-use Rattle.td_check.specs.OperatorTypes.{equality_type, same_heading, same_type}
+use Rattle.td_algebra.specs.model.Operators.{is_subset}
+use Rattle.td_check.specs.model.OperatorTypes.{equality_type, same_heading, same_type}
 use Rattle.td_check.proofs.Comparisons.{equal_valued}
-use Rattle.td_eval.specs.OperatorValues.{at_most, equality_value, membership_value, of_truth}
+use Rattle.td_eval.specs.model.OperatorValues.{at_most, equality_value, membership_value, of_truth}
 use Rattle.td_tree.specs.declared.cause.Cause.TheVariants as causes
-use Rattle.td_tree.specs.Outcomes.{Outcome, Valued, Refused, named_cause, value_if, with_value}
+use Rattle.td_tree.specs.model.Outcomes.{Outcome, Valued, Refused, named_cause, value_if, with_value}
 use Rattle.td_types.specs.code.TypeCode.{unpack_pack}
-use Rattle.td_types.specs.TypeOrder.{type_cmp_total, type_eq-Decides}
-use Rattle.td_types.specs.Types as types
-use Rattle.td_types.specs.Types.{Type', Attrs}
-use Rattle.td_value.specs.Sets.{has}
+use Rattle.td_types.specs.code.TypeOrder.{type_cmp_total, type_eq-Decides}
+use Rattle.td_types.specs.model.Types as types
+use Rattle.td_types.specs.model.Types.{Type', Attrs}
+use Rattle.td_value.specs.model.Sets.{has}
 use Rattle.td_value.specs.code.ValueCode.{unpack_pack_fields, unpack_pack_rows}
-use Rattle.td_value.specs.Values.{Val, boolean, Relation, Tuple, heading_of, relation_value, tuple_cmp, tuple_value, type_of, value_cmp}
+use Rattle.td_value.specs.model.Values.{Val, boolean, Relation, Tuple, heading_of, relation_value, tuple_cmp, tuple_value, type_of, value_cmp}
 use Rattle.td_value.specs.code.Views.{node_view}
 use Rattle.td_value.specs.declared.value.Node.{Node}
 use Rattle.td_value.specs.declared.value.Node.TheVariants as nodes

@@ -5,19 +5,18 @@ use Rattle.std.proofs.Math.ListN.{drop_of_length-le}
 use Rattle.std.specs.List.{zip}
 use Rattle.std.specs.Prelude.{IfOk}
 use Rattle.std.specs.Global.{Vec}
-use Rattle.td_check.specs.OperatorTypes.{known_or}
-use Rattle.td_eval.specs.OperatorValues.{component_value, components_of, element_of, headed_value, of_relation}
+use Rattle.td_check.specs.model.OperatorTypes.{known_or}
+use Rattle.td_eval.specs.model.OperatorValues.{component_value, components_of, element_of, headed_value, of_relation}
 use Rattle.td_tree.proofs.code_lemmas.Gatherings.{answers_gathered}
 use Rattle.td_tree.specs.declared.cause.Cause.{Cause}
-use Rattle.td_tree.specs.Gatherings.{IsGathered, answer_of}
-use Rattle.td_tree.specs.Outcomes.{Answers, Outcome, Valued, gathered}
+use Rattle.td_tree.specs.code.Gatherings.{IsGathered, answer_of}
+use Rattle.td_tree.specs.model.Outcomes.{Answers, Outcome, Valued, gathered}
 use Rattle.td_tree.specs.declared.cause.Cause.TheVariants as causes
 use Rattle.td_tree.specs.declared.fault.Fault.{Fault}
-use Rattle.td_types.specs.TypeLists.{DeclaredType, declared_at}
-use Rattle.td_types.specs.Types.{Heading, attribute_names}
-use Rattle.td_value.specs.Sets.{set_of}
-use Rattle.td_value.specs.Values.{Val, Relation, Tuple, UserValue, pack_parts, relation_of, selected_value, tuple_cmp, value_at}
-use Rattle.td_value.specs.code.Views.{relation_view}
+use Rattle.td_types.specs.model.TypeLists.{DeclaredType, declared_at}
+use Rattle.td_types.specs.model.Types.{Heading, attribute_names}
+use Rattle.td_value.specs.model.Sets.{set_of}
+use Rattle.td_value.specs.model.Values.{Val, Relation, Tuple, UserValue, pack_parts, relation_of, selected_value, tuple_cmp, value_at, relation_view}
 
 -- ---- names beside values
 

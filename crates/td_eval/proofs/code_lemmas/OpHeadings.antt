@@ -4,13 +4,13 @@ use Rattle.std.specs.Prelude.{◌&&◌, filter, if◌then◌else◌, is_some, no
 use Rattle.std.proofs.lemmas.List.{map-append, take_more}
 use Rattle.std.proofs.lemmas.Option.{get_or_from_slice_get}
 use Rattle.std.specs.List.{list_all, slice_get}
-use Rattle.td_eval.specs.OperatorValues.{of_relation, relation_where}
+use Rattle.td_eval.specs.model.OperatorValues.{of_relation, relation_where}
 use Rattle.td_tree.specs.declared.fault.Fault.{Fault}
-use Rattle.td_tree.specs.Outcomes.{Answers}
-use Rattle.td_value.specs.Values.{Val, Relation}
+use Rattle.td_tree.specs.model.Outcomes.{Answers}
+use Rattle.td_value.specs.model.Values.{Val, Relation}
 use Rattle.td_algebra.proofs.Entries.{heading_distinct}
-use Rattle.td_types.specs.Headings.{has_attribute, has_attributes, has_projection, outside}
-use Rattle.td_types.specs.Types.{Attribute, Heading, IsHeading, attribute_names, pack, same_name, type_at}
+use Rattle.td_types.specs.model.Headings.{has_attribute, has_attributes, has_projection, outside}
+use Rattle.td_types.specs.model.Types.{Attribute, Heading, IsHeading, attribute_names, pack, same_name, type_at}
 use Rattle.td_types.proofs.HeadingLaws.{same_name-itself, type_at-filter}
 
 -- what holds of each name by one test holds by another that it implies

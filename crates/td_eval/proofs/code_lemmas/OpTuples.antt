@@ -2,13 +2,13 @@
 use Rattle.std.proofs.Common.{◌≡◌, ◌∙◌, ℕ, Bool, List, [], ◌∷◌, Option, Some, None, Result, ap, length, map, option_map, refl, reverse, sym, Bor, arith}
 use Rattle.std.specs.List.{push}
 use Rattle.std.proofs.lemmas.List.{reverse-append}
-use Rattle.td_algebra.specs.Operators.{restriction}
-use Rattle.td_eval.specs.OperatorValues.{is_true, of_relation, restricted_value, truth_value}
-use Rattle.td_eval.specs.Worlds.{innermost_value}
+use Rattle.td_algebra.specs.model.Operators.{restriction}
+use Rattle.td_eval.specs.model.OperatorValues.{is_true, of_relation, restricted_value, truth_value}
+use Rattle.td_eval.specs.model.Worlds.{innermost_value}
 use Rattle.td_tree.specs.declared.fault.Fault.{Fault}
-use Rattle.td_tree.specs.Outcomes.{Answers, Outcome, Valued, Refused, gathered}
+use Rattle.td_tree.specs.model.Outcomes.{Answers, Outcome, Valued, Refused, gathered}
 use Rattle.td_types.proofs.OutcomeLaws.{valued_is, values_of_both}
-use Rattle.td_value.specs.Values.{Val, boolean, integer, char, user, tuple, relation, Relation, Tuple, value_at}
+use Rattle.td_value.specs.model.Values.{Val, boolean, integer, char, user, tuple, relation, Relation, Tuple, value_at}
 
 -- ---- the innermost attribute
 

@@ -1,15 +1,15 @@
 -- What operators find in values, and what is answered of it.
 use Rattle.std.proofs.Common.{◌≡◌, Bool, true, Result, Err, ap, refl}
-use Rattle.td_check.specs.OperatorTypes.{same_heading}
-use Rattle.td_eval.specs.OperatorValues.{of_relation, on_relation, on_relations, on_tuple, over_one_heading, relation_where}
+use Rattle.td_check.specs.model.OperatorTypes.{same_heading}
+use Rattle.td_eval.specs.model.OperatorValues.{of_relation, on_relation, on_relations, on_tuple, over_one_heading, relation_where}
 use Rattle.td_tree.specs.declared.fault.Fault.{Fault}
 use Rattle.td_tree.specs.declared.fault.Fault.TheVariants as faults
-use Rattle.td_tree.specs.Outcomes.{Answers, Outcome, Valued, Refused, with_value}
+use Rattle.td_tree.specs.model.Outcomes.{Answers, Outcome, Valued, Refused, with_value}
 use Rattle.td_types.proofs.OutcomeLaws.{valued_is}
 use Rattle.td_types.specs.code.TypeCode.{unpack_pack}
-use Rattle.td_types.specs.Types.{pack}
+use Rattle.td_types.specs.model.Types.{pack}
 use Rattle.td_value.specs.code.ValueCode.{unpack_pack_fields, unpack_pack_rows}
-use Rattle.td_value.specs.Values.{Val, boolean, integer, char, user, tuple, relation, Relation, Tuple, pack_fields, pack_rows}
+use Rattle.td_value.specs.model.Values.{Val, boolean, integer, char, user, tuple, relation, Relation, Tuple, pack_fields, pack_rows}
 
 -- the relation that a value is made of
 pub relation_unpacked : {A : Type 0} (r : Relation) (f : Relation → Outcome A)

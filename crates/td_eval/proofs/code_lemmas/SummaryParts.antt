@@ -4,29 +4,29 @@ use Rattle.std.specs.Prelude.{◌&&◌, if◌then◌else◌, is_some, not}
 use Rattle.std.specs.Cmp.Lexicographic.{same_text}
 use Rattle.std.specs.List.{Contains}
 use Rattle.std.specs.List.Sorted.{IsStrictlySortedBy}
-use Rattle.td_algebra.specs.Operators.{common_names, restriction}
+use Rattle.td_algebra.specs.model.Operators.{common_names, restriction}
 use Rattle.td_algebra.proofs.Lists.{contains_filter, contains_map}
 use Rattle.td_algebra.proofs.Members.{both_true}
-use Rattle.td_check.specs.OperatorTypes.{count_item, aggregate_item, aggregate_type, item_type, named_part, per_heading, summary_type}
-use Rattle.td_check.specs.Scopes.{Scope}
-use Rattle.td_check.specs.StaticLaws.{HasMore}
-use Rattle.td_check.specs.StaticTypes.{items_of, type_of}
+use Rattle.td_check.specs.model.OperatorTypes.{count_item, aggregate_item, aggregate_type, item_type, named_part, per_heading, summary_type}
+use Rattle.td_check.specs.model.Scopes.{Scope}
+use Rattle.td_check.specs.laws.StaticLaws.{HasMore}
+use Rattle.td_check.specs.model.StaticTypes.{items_of, type_of}
 use Rattle.td_check.proofs.StaticLaws.{more_changes_nothing}
 use Rattle.td_check.proofs.SummaryLaws.{HeadingItems, Items, or_mismatch}
-use Rattle.td_group.specs.Groups.{groups}
+use Rattle.td_group.specs.model.Groups.{groups}
 use Rattle.td_tree.specs.declared.cause.Cause.TheVariants as causes
-use Rattle.td_tree.specs.Outcomes.{Outcome, Valued, Refused, gathered, with_both, with_value}
-use Rattle.td_tree.specs.Trees.{Attributes, only, all_but, Summaries, no_summaries, counted, summed}
-use Rattle.td_types.specs.Headings.{has_attribute, has_name, has_projection, is_part, is_type_or_none, outside, projected_heading, projection}
-use Rattle.td_types.specs.TypeOrder.{type_eq-Decides}
-use Rattle.td_types.specs.Types.{Attribute, Heading, IsAscending, IsHeading, Type', attribute_names, pack, same_name, type_at}
-use Rattle.td_types.specs.Types as types
+use Rattle.td_tree.specs.model.Outcomes.{Outcome, Valued, Refused, gathered, with_both, with_value}
+use Rattle.td_tree.specs.model.Trees.{Attributes, only, all_but, Summaries, no_summaries, counted, summed}
+use Rattle.td_types.specs.model.Headings.{has_attribute, has_name, has_projection, is_part, is_type_or_none, outside, projected_heading, projection}
+use Rattle.td_types.specs.code.TypeOrder.{type_eq-Decides}
+use Rattle.td_types.specs.model.Types.{Attribute, Heading, IsAscending, IsHeading, Type', attribute_names, pack, same_name, type_at}
+use Rattle.td_types.specs.model.Types as types
 use Rattle.td_types.proofs.DistinctNames.{absent_below}
 use Rattle.td_types.proofs.HeadingLaws.{IsAscending-filter, ascending_from_heading, has_attribute-names, same_name-itself, type_at-filter}
 use Rattle.td_types.proofs.OutcomeLaws.{value_of_test, value_of_with, valued_is, values_of_both}
-use Rattle.td_value.specs.Agreement.{agree_on}
-use Rattle.td_value.specs.Values.{Relation, Tuple}
-use Rattle.td_eval.specs.AggregateValues.{group_with, summary_attributes}
+use Rattle.td_value.specs.model.Agreement.{agree_on}
+use Rattle.td_value.specs.model.Values.{Relation, Tuple}
+use Rattle.td_eval.specs.model.AggregateValues.{group_with, summary_attributes}
 
 -- ---- the new attributes
 

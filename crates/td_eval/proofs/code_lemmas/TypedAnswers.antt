@@ -1,13 +1,13 @@
 -- What is answered of an outcome that keeps a type.
 use Rattle.std.proofs.Common.{◌≡◌, List, Result, Ok, Err, subst}
-use Rattle.td_eval.specs.ValueTypes.{AnswersType, IsDynamic, KeepsType}
+use Rattle.td_eval.specs.laws.ValueTypes.{AnswersType, IsDynamic, KeepsType}
 use Rattle.td_tree.proofs.law_lemmas.LeastCauses.{least_is_named}
 use Rattle.td_tree.specs.declared.fault.Fault.{Fault}
 use Rattle.td_tree.specs.declared.fault.Fault.TheVariants as faults
-use Rattle.td_tree.specs.Outcomes.{Answers, Outcome, Valued, Refused, least}
-use Rattle.td_types.specs.TypeLists.{DeclaredType}
-use Rattle.td_types.specs.Types.{Type'}
-use Rattle.td_value.specs.Values.{Val}
+use Rattle.td_tree.specs.model.Outcomes.{Answers, Outcome, Valued, Refused, least}
+use Rattle.td_types.specs.model.TypeLists.{DeclaredType}
+use Rattle.td_types.specs.model.Types.{Type'}
+use Rattle.td_value.specs.model.Values.{Val}
 
 pub answers_type : (ds : List DeclaredType) (t : Type') (o : Outcome Val) (r : Result Val Fault) → Answers (λ v. v) r o → KeepsType ds (Valued t) o
     → AnswersType ds t r

@@ -5,9 +5,9 @@ use Rattle.std.specs.List.Sorted.{IsStrictlySortedBy}
 use Rattle.std.specs.Ordering.{eq_by_cmp}
 use Rattle.std.specs.Prelude.{if◌then◌else◌}
 use Rattle.std.proofs.lemmas.Str.{IsUtf8-append}
-use Rattle.td_check.specs.OperatorTypes.{attribute_type, both_of, choice_type, closure_type, comparison_type, component_type, equality_type, extracted_type, if_type, known_or, measure_type, membership_type, operator_type, order_type, prefix_type, same_heading, same_type}
-use Rattle.td_check.specs.StaticTypes.{literal_type, both_types}
-use Rattle.td_group.specs.Closure.{closure}
+use Rattle.td_check.specs.model.OperatorTypes.{attribute_type, both_of, choice_type, closure_type, comparison_type, component_type, equality_type, extracted_type, if_type, known_or, measure_type, membership_type, operator_type, order_type, prefix_type, same_heading, same_type}
+use Rattle.td_check.specs.model.StaticTypes.{literal_type, both_types}
+use Rattle.td_group.specs.model.Closure.{closure}
 use Rattle.td_tree.specs.declared.cause.Cause.{Cause}
 use Rattle.td_tree.specs.declared.cause.Cause.TheVariants as causes
 use Rattle.td_tree.specs.declared.operator.Comparison.{Comparison}
@@ -17,26 +17,26 @@ use Rattle.td_tree.specs.declared.operator.Measure.TheVariants as measures
 use Rattle.td_tree.specs.declared.operator.Operator.TheVariants as operators
 use Rattle.td_tree.specs.declared.operator.Prefix.{Prefix}
 use Rattle.td_tree.specs.declared.operator.Prefix.TheVariants as prefixes
-use Rattle.td_tree.specs.Outcomes.{Outcome, Valued, Refused, Only, value_if, with_both, with_value}
-use Rattle.td_tree.specs.Trees.{Literal, number, text, truth, table_dee, table_dum}
-use Rattle.td_types.specs.Headings.{is_closable}
-use Rattle.td_types.specs.TypeLists.{DeclaredType}
-use Rattle.td_types.specs.Types.{Type', Attribute, Attrs, Heading, attribute_names, pack, same_name, type_at, unpack}
-use Rattle.td_types.specs.Types as types
+use Rattle.td_tree.specs.model.Outcomes.{Outcome, Valued, Refused, Only, value_if, with_both, with_value}
+use Rattle.td_tree.specs.model.Trees.{Literal, number, text, truth, table_dee, table_dum}
+use Rattle.td_types.specs.model.Headings.{is_closable}
+use Rattle.td_types.specs.model.TypeLists.{DeclaredType}
+use Rattle.td_types.specs.model.Types.{Type', Attribute, Attrs, Heading, attribute_names, pack, same_name, type_at, unpack}
+use Rattle.td_types.specs.model.Types as types
 use Rattle.td_types.proofs.KnownTypes.{declared_more}
 use Rattle.td_types.proofs.Meanings.{pack_unpack}
 use Rattle.td_value.proofs.Packed.{pack_unpack_fields}
-use Rattle.td_value.specs.KnownValues.{AreOfTypes}
-use Rattle.td_value.specs.Values.{Val, char, of_number, tuple, relation, Parts, no_parts, part, Rows, no_rows, row, AreValues, IsValue, heading_of, unpack_fields, unpack_rows, value_at, value_cmp}
+use Rattle.td_value.specs.model.KnownValues.{AreOfTypes}
+use Rattle.td_value.specs.model.Values.{Val, char, of_number, tuple, relation, Parts, no_parts, part, Rows, no_rows, row, AreValues, IsValue, heading_of, unpack_fields, unpack_rows, value_at, value_cmp}
 use Rattle.td_value.proofs.KnownValues.{has_its_type}
-use Rattle.td_eval.specs.OperatorValues.{at_most, comparison_value, component_value, components_of, equality_value, extracted_value, is_zero, literal_value, measure_value, membership_value, of_truth, on_number, on_numbers, on_text, on_truth, on_truths, only_tuple, operator_value, prefix_value, quotient, relation_where, signed_number}
-use Rattle.td_eval.specs.ValueTypes.{IsOfType, KeepsType}
+use Rattle.td_eval.specs.model.OperatorValues.{at_most, comparison_value, component_value, components_of, equality_value, extracted_value, is_zero, literal_value, measure_value, membership_value, of_truth, on_number, on_numbers, on_text, on_truth, on_truths, only_tuple, operator_value, prefix_value, quotient, relation_where, signed_number}
+use Rattle.td_eval.specs.laws.ValueTypes.{IsOfType, KeepsType}
 use Rattle.td_eval.proofs.code_lemmas.KeepsClosure.{closure_keeps}
 use Rattle.td_eval.proofs.code_lemmas.KeepsGathered.{one_dynamic}
 use Rattle.td_eval.proofs.code_lemmas.KeepsRelations.{over_relation_keeps}
 use Rattle.td_eval.proofs.code_lemmas.TypedOutcomes.{KeepsAs, test_keeps}
 use Rattle.td_eval.proofs.code_lemmas.TypedValues.{BothFound, fields_heading, fields_of, found_in_fields, in_range_keeps, integer_of, known_keeps, number_keeps, relation_keeps, rows_of, same_is, text_keeps, text_of, truth_keeps, tuple_keeps, type_is, user_of}
-use Rattle.td_tree.specs.WrittenTrees.{IsUtf8Literal}
+use Rattle.td_tree.specs.model.WrittenTrees.{IsUtf8Literal}
 
 module _ (ds : List DeclaredType) where
   -- ---- literals

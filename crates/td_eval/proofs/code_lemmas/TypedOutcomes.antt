@@ -2,11 +2,11 @@
 use Rattle.std.proofs.Common.{◌≡◌, Bool, true, false, List, refl}
 use Rattle.std.specs.Prelude.{⊤}
 use Rattle.td_tree.specs.declared.cause.Cause.{Cause}
-use Rattle.td_tree.specs.Outcomes.{Causes, Union, Outcome, Valued, Refused, value_if, with_value, with_both}
-use Rattle.td_types.specs.TypeLists.{DeclaredType}
-use Rattle.td_types.specs.Types.{Type'}
-use Rattle.td_value.specs.Values.{Val}
-use Rattle.td_eval.specs.ValueTypes.{AreDynamic, IsOfType, KeepsType}
+use Rattle.td_tree.specs.model.Outcomes.{Causes, Union, Outcome, Valued, Refused, value_if, with_value, with_both}
+use Rattle.td_types.specs.model.TypeLists.{DeclaredType}
+use Rattle.td_types.specs.model.Types.{Type'}
+use Rattle.td_value.specs.model.Values.{Val}
+use Rattle.td_eval.specs.laws.ValueTypes.{AreDynamic, IsOfType, KeepsType}
 use Rattle.td_eval.proofs.code_lemmas.KeepsGathered.{Keeps, both_dynamic}
 
 -- where the first has a value, the second has one that fits it, or dynamic causes

@@ -6,25 +6,24 @@ use Rattle.std.specs.declared.cmp.Ordering.{Ordering}
 use Rattle.std.specs.declared.cmp.Ordering.TheVariants.{Less, Equal, Greater}
 use Rattle.td_algebra.proofs.Entries.{IsTupleOf-tuple_of, names-heading, type_at-heading_of}
 use Rattle.td_algebra.proofs.Relations.{All-from_members, IsRelation-relation_of, member_headed}
-use Rattle.td_check.specs.OperatorTypes.{element_type, headed_type, listed_type, over_relation, same_heading, same_type, tuple_type, restriction_type}
+use Rattle.td_check.specs.model.OperatorTypes.{element_type, headed_type, listed_type, over_relation, same_heading, same_type, tuple_type, restriction_type}
 use Rattle.td_tree.specs.declared.cause.Cause.TheVariants as causes
-use Rattle.td_tree.specs.Names.{IsName}
-use Rattle.td_tree.specs.Outcomes.{Outcome, Valued, Refused, gathered, value_if, with_both, with_value}
-use Rattle.td_types.specs.Headings.{are_distinct, heading_from, made_heading}
-use Rattle.td_types.specs.TypeLists.{AreKnown, DeclaredType, IsKnown}
-use Rattle.td_types.specs.Types.{Type', Attribute, Attrs, Heading, IsHeading, IsType, attribute_names, pack, unpack}
-use Rattle.td_types.specs.Types as types
+use Rattle.td_tree.specs.model.Names.{IsName}
+use Rattle.td_tree.specs.model.Outcomes.{Outcome, Valued, Refused, gathered, value_if, with_both, with_value}
+use Rattle.td_types.specs.model.Headings.{are_distinct, heading_from, made_heading}
+use Rattle.td_types.specs.model.TypeLists.{AreKnown, DeclaredType, IsKnown}
+use Rattle.td_types.specs.model.Types.{Type', Attribute, Attrs, Heading, IsHeading, IsType, attribute_names, pack, unpack}
+use Rattle.td_types.specs.model.Types as types
 use Rattle.td_types.proofs.Made.{type_at-heading_from}
 use Rattle.td_types.proofs.Meanings.{known_heading, pack_unpack}
 use Rattle.td_value.proofs.Packed.{pack_unpack_fields, pack_unpack_rows}
-use Rattle.td_value.specs.KnownValues.{HasHeading, HasType}
-use Rattle.td_value.specs.Sets.{with_item_placed, put_in, set_of}
-use Rattle.td_value.specs.Values.{Val, relation_value, tuple, relation, AreFields, Fields, IsTuple, IsTupleOf, IsValue, Relation, Rows, Tuple, entry_cmp, heading_of, pack_fields, relation_of, tuple_cmp, tuple_names, tuple_of, type_of, unpack_fields, unpack_rows}
-use Rattle.td_value.specs.code.Views.{relation_view}
+use Rattle.td_value.specs.model.KnownValues.{HasHeading, HasType}
+use Rattle.td_value.specs.model.Sets.{with_item_placed, put_in, set_of}
+use Rattle.td_value.specs.model.Values.{Val, relation_value, tuple, relation, AreFields, Fields, IsTuple, IsTupleOf, IsValue, Relation, Rows, Tuple, entry_cmp, heading_of, pack_fields, relation_of, tuple_cmp, tuple_names, tuple_of, type_of, unpack_fields, unpack_rows, relation_view}
 use Rattle.td_value.proofs.KnownValues.{by_values, has_its_type, has_known_type}
 use Rattle.td_value.proofs.Typed.{typed}
-use Rattle.td_eval.specs.OperatorValues.{element_of, headed_value, listed_value, of_relation, on_relation, restricted_value, tuple_from}
-use Rattle.td_eval.specs.ValueTypes.{IsOfType, IsTypedTuple, KeepsType}
+use Rattle.td_eval.specs.model.OperatorValues.{element_of, headed_value, listed_value, of_relation, on_relation, restricted_value, tuple_from}
+use Rattle.td_eval.specs.laws.ValueTypes.{IsOfType, IsTypedTuple, KeepsType}
 use Rattle.td_eval.proofs.code_lemmas.KeepsGathered.{has_type_members, member_from_all}
 use Rattle.td_eval.proofs.code_lemmas.KeepsExtension.{PartsKeep, restricted_keeps}
 use Rattle.td_eval.proofs.code_lemmas.TypedOutcomes.{KeepsAs, keeps_both, made_keeps, test_keeps}

@@ -4,10 +4,10 @@ use Rattle.std.specs.List.{AllByRecursion}
 use Rattle.std.specs.Prelude.{⊤, if◌then◌else◌}
 use Rattle.td_algebra.proofs.Entries.{type_at-heading_of}
 use Rattle.td_algebra.proofs.Members.{first_true, second_true}
-use Rattle.td_check.specs.OperatorTypes.{count_item, aggregate_item, aggregate_type, are_types_of, comparison_type, component_type, extension_type, extracted_type, headed_type, item_type, known_or, listed_type, measure_type, misfit, operator_type, over_relation, postfix_type, prefix_type, same_type, selector_type, setting_type, tuple_type, restriction_type}
-use Rattle.td_check.specs.Scopes.{KnownRelvar, Scope, bound_to, entered_with, innermost, known_relvar}
-use Rattle.td_check.specs.StaticLaws.{HasMore, IsKnownHeading, IsScope}
-use Rattle.td_check.specs.StaticTypes.{items_of, name_type, named_types, type_of, type_where_bound, types_of}
+use Rattle.td_check.specs.model.OperatorTypes.{count_item, aggregate_item, aggregate_type, are_types_of, comparison_type, component_type, extension_type, extracted_type, headed_type, item_type, known_or, listed_type, measure_type, misfit, operator_type, over_relation, postfix_type, prefix_type, same_type, selector_type, setting_type, tuple_type, restriction_type}
+use Rattle.td_check.specs.model.Scopes.{KnownRelvar, Scope, bound_to, entered_with, innermost, known_relvar}
+use Rattle.td_check.specs.laws.StaticLaws.{HasMore, IsKnownHeading, IsScope}
+use Rattle.td_check.specs.model.StaticTypes.{items_of, name_type, named_types, type_of, type_where_bound, types_of}
 use Rattle.td_check.proofs.GivenLaws.{items_give}
 use Rattle.td_check.proofs.KnownLaws.{known_closed, supplies}
 use Rattle.td_check.proofs.OperatorLaws.{Gives, ItemFits}
@@ -16,26 +16,26 @@ use Rattle.td_check.proofs.SummaryLaws.{Items}
 use Rattle.td_tree.specs.declared.cause.Cause.TheVariants as causes
 use Rattle.td_tree.specs.declared.operator.Operator.{Operator}
 use Rattle.td_tree.specs.declared.operator.Operator.TheVariants as operators
-use Rattle.td_tree.specs.Names.{IsName}
-use Rattle.td_tree.specs.Outcomes.{Outcome, Valued, Refused, gathered, value_if, with_both, with_value}
-use Rattle.td_tree.specs.Trees.{AttributeTrees, Tree, literal, name, parentheses, prefix, extract, restriction, binary, compare, postfix, select, component, measure, aggregate, relation, headed_relation, tuple, extend, extend_setting, summarize_per, summarize_by, choice, binding, Trees, none, more, NamedTrees, none_named, more_named, Summaries, no_summaries, counted, summed}
-use Rattle.td_types.specs.Headings.{has_name, made_heading}
-use Rattle.td_types.specs.TypeLists.{AreKnown, DeclaredType, IsKnown, attributes_meant, declared_at, heading_meant}
-use Rattle.td_types.specs.Types.{Type', Attribute, Heading, IsHeading, IsType, pack, type_at}
-use Rattle.td_types.specs.Types as types
+use Rattle.td_tree.specs.model.Names.{IsName}
+use Rattle.td_tree.specs.model.Outcomes.{Outcome, Valued, Refused, gathered, value_if, with_both, with_value}
+use Rattle.td_tree.specs.model.Trees.{AttributeTrees, Tree, literal, name, parentheses, prefix, extract, restriction, binary, compare, postfix, select, component, measure, aggregate, relation, headed_relation, tuple, extend, extend_setting, summarize_per, summarize_by, choice, binding, Trees, none, more, NamedTrees, none_named, more_named, Summaries, no_summaries, counted, summed}
+use Rattle.td_types.specs.model.Headings.{has_name, made_heading}
+use Rattle.td_types.specs.model.TypeLists.{AreKnown, DeclaredType, IsKnown, attributes_meant, declared_at, heading_meant}
+use Rattle.td_types.specs.model.Types.{Type', Attribute, Heading, IsHeading, IsType, pack, type_at}
+use Rattle.td_types.specs.model.Types as types
 use Rattle.td_types.proofs.Meanings.{attributes_later}
 use Rattle.td_types.proofs.OutcomeLaws.{value_of_with, valued_is, values_of_both}
-use Rattle.td_value.specs.KnownValues.{AreOfTypes}
-use Rattle.td_value.specs.Values.{Val, AreValues, Relation, Tuple, heading_of, pack_fields, pack_parts, relation_value, value_at}
-use Rattle.td_value.specs.Values as values
+use Rattle.td_value.specs.model.KnownValues.{AreOfTypes}
+use Rattle.td_value.specs.model.Values.{Val, AreValues, Relation, Tuple, heading_of, pack_fields, pack_parts, relation_value, value_at}
+use Rattle.td_value.specs.model.Values as values
 use Rattle.td_value.proofs.HeadingOf.{fields_type-heading}
 use Rattle.td_value.proofs.KnownValues.{has_its_type, has_known_type}
 use Rattle.td_value.proofs.Typed.{typed}
-use Rattle.td_eval.specs.AggregateValues.{aggregated_value, asked_of, summary_attributes}
-use Rattle.td_eval.specs.OperatorValues.{comparison_value, component_value, extended_by_settings, extended_value, extracted_value, headed_value, listed_value, measure_value, on_relation, operator_value, postfix_value, prefix_value, restricted_value, tuple_from}
-use Rattle.td_eval.specs.TreeValues.{argument_values, entry_values, items_in_tuples, value_of, value_where_bound, values_in_tuples}
-use Rattle.td_eval.specs.ValueTypes.{IsOfType, IsTypedTuple, KeepsScope, KeepsType, ValuesKeepTypes}
-use Rattle.td_eval.specs.Worlds.{World, innermost_value, known_outcome, name_value, selector_outcome, with_tuples}
+use Rattle.td_eval.specs.model.AggregateValues.{aggregated_value, asked_of, summary_attributes}
+use Rattle.td_eval.specs.model.OperatorValues.{comparison_value, component_value, extended_by_settings, extended_value, extracted_value, headed_value, listed_value, measure_value, on_relation, operator_value, postfix_value, prefix_value, restricted_value, tuple_from}
+use Rattle.td_eval.specs.model.TreeValues.{argument_values, entry_values, items_in_tuples, value_of, value_where_bound, values_in_tuples}
+use Rattle.td_eval.specs.laws.ValueTypes.{IsOfType, IsTypedTuple, KeepsScope, KeepsType, ValuesKeepTypes}
+use Rattle.td_eval.specs.model.Worlds.{World, innermost_value, known_outcome, name_value, selector_outcome, with_tuples}
 use Rattle.td_eval.proofs.code_lemmas.KeepsGathered.{member_from_all}
 use Rattle.td_eval.proofs.code_lemmas.KeepsAggregates.{aggregation_keeps}
 use Rattle.td_eval.proofs.code_lemmas.KeepsExtension.{PartsKeep, extended_keeps, settings_keep}
@@ -47,7 +47,7 @@ use Rattle.td_eval.proofs.code_lemmas.TypedOperators.{add_keeps, and_keeps, choi
 use Rattle.td_eval.proofs.code_lemmas.TypedOutcomes.{KeepsAs, Of, as_typed, both_keep, keeps_both, made_keeps, test_keeps, typed_as, value_keeps}
 use Rattle.td_eval.proofs.code_lemmas.TypedRows.{AreEntriesOf, AreOf, extend_keeps, headed_keeps, listed_keeps, one_typed, own_type, rows_typed, tuple_from_keeps, where_keeps}
 use Rattle.td_eval.proofs.code_lemmas.TypedValues.{BothFound, found_in_tuple, type_is}
-use Rattle.td_tree.specs.WrittenTrees.{GiveNames, GivesNames, HasTexts, HaveNames, HaveTexts, ItemsGiveNames, ItemsHaveTexts, PartsGiveNames, PartsHaveTexts}
+use Rattle.td_tree.specs.model.WrittenTrees.{GiveNames, GivesNames, HasTexts, HaveNames, HaveTexts, ItemsGiveNames, ItemsHaveTexts, PartsGiveNames, PartsHaveTexts}
 
 -- ---- operators between two operands
 

@@ -3,22 +3,21 @@ use Rattle.std.proofs.Common.{◌≡◌, ℕ, ℤ, pos, Bool, true, false, List,
 use Rattle.std.specs.Prelude.{IsUtf8, ⊤, if◌then◌else◌}
 use Rattle.std.proofs.lemmas.Bool.Decides.{nat_tests}
 use Rattle.std.proofs.lemmas.Int.{ints}
-use Rattle.td_check.specs.OperatorTypes.{known_or, same_heading, same_type}
+use Rattle.td_check.specs.model.OperatorTypes.{known_or, same_heading, same_type}
 use Rattle.td_tree.specs.declared.cause.Cause.{Cause}
 use Rattle.td_tree.specs.declared.cause.Cause.TheVariants as causes
-use Rattle.td_tree.specs.Outcomes.{Only, Outcome, Valued, Refused}
-use Rattle.td_types.specs.TypeLists.{AreKnown, DeclaredType, declared_at}
-use Rattle.td_types.specs.TypeOrder.{heading_eq-Decides, type_eq-Decides}
-use Rattle.td_types.specs.Types.{Type', Attrs, Heading, attr, no_attrs, pack, same_name, type_at, unpack}
-use Rattle.td_types.specs.Types as types
+use Rattle.td_tree.specs.model.Outcomes.{Only, Outcome, Valued, Refused}
+use Rattle.td_types.specs.model.TypeLists.{AreKnown, DeclaredType, declared_at}
+use Rattle.td_types.specs.code.TypeOrder.{heading_eq-Decides, type_eq-Decides}
+use Rattle.td_types.specs.model.Types.{Type', Attrs, Heading, attr, no_attrs, pack, same_name, type_at, unpack}
+use Rattle.td_types.specs.model.Types as types
 use Rattle.td_types.specs.code.TypeCode.{unpack_pack}
-use Rattle.td_value.specs.KnownValues.{AreOfTypes, HasHeading, HasType, HaveHeading}
+use Rattle.td_value.specs.model.KnownValues.{AreOfTypes, HasHeading, HasType, HaveHeading}
 use Rattle.td_value.specs.code.ValueCode.{unpack_pack_fields}
-use Rattle.td_value.specs.Values.{Val, boolean, integer, char, is_in_range, of_number, user, tuple, relation, Parts, Fields, no_fields, field, Rows, AreFields, IsInRange, IsValue, Relation, Tuple, heading_of, pack_fields, unpack_fields, unpack_rows, value_at}
-use Rattle.td_value.specs.code.Views.{relation_view}
+use Rattle.td_value.specs.model.Values.{Val, boolean, integer, char, is_in_range, of_number, user, tuple, relation, Parts, Fields, no_fields, field, Rows, AreFields, IsInRange, IsValue, Relation, Tuple, heading_of, pack_fields, unpack_fields, unpack_rows, value_at, relation_view}
 use Rattle.td_value.proofs.KnownValues.{has_its_type}
-use Rattle.td_eval.specs.OperatorValues.{on_number, on_relation, on_text, on_truth, on_tuple}
-use Rattle.td_eval.specs.ValueTypes.{IsOfType, IsTypedTuple, KeepsType}
+use Rattle.td_eval.specs.model.OperatorValues.{on_number, on_relation, on_text, on_truth, on_tuple}
+use Rattle.td_eval.specs.laws.ValueTypes.{IsOfType, IsTypedTuple, KeepsType}
 use Rattle.td_eval.proofs.code_lemmas.KeepsGathered.{one_dynamic}
 
 -- ---- what a test on types and headings says

@@ -1,13 +1,13 @@
 -- The heading of the attribute that UNGROUP and UNWRAP put the inside of in its place, and what follows of it.
 use Rattle.std.proofs.Common.{◌≡◌, ℕ, true, List, None, Option, Some, refl, subst}
-use Rattle.td_check.specs.OperatorTypes.{attribute_type, known_or, over_relation, over_tuple}
-use Rattle.td_group.specs.Nesting.{heading_inside, inner_heading, is_relation_type, is_tuple_type}
+use Rattle.td_check.specs.model.OperatorTypes.{attribute_type, known_or, over_relation, over_tuple}
+use Rattle.td_group.specs.model.Nesting.{heading_inside, inner_heading, is_relation_type, is_tuple_type}
 use Rattle.td_tree.specs.declared.cause.Cause.TheVariants as causes
-use Rattle.td_tree.specs.Outcomes.{Outcome, Valued, with_value}
+use Rattle.td_tree.specs.model.Outcomes.{Outcome, Valued, with_value}
 use Rattle.td_types.proofs.OutcomeLaws.{valued_is}
-use Rattle.td_types.specs.Types.{Heading, Type', type_at, unpack}
-use Rattle.td_types.specs.Types as types
-use Rattle.td_value.specs.Values.{Val}
+use Rattle.td_types.specs.model.Types.{Heading, Type', type_at, unpack}
+use Rattle.td_types.specs.model.Types as types
+use Rattle.td_value.specs.model.Values.{Val}
 
 -- an attribute of a relation type is there, the heading is inside it, and what follows of that heading is the answer
 abbrev pub HasRelationPart : List ℕ → Heading → Heading → Type 0

@@ -1,20 +1,20 @@
--- What a sight sees of relvars: the relations that are held, and the virtual relvars that are known.
+-- What a lent world sees of relvars: the relations that are held, and the virtual relvars that are known.
 use Rattle.std.proofs.Common.{◌≡◌, ◌∙◌, ◌<◌, ◌≤◌, ℕ, Bool, true, false, List, [], Option, Some, None, ap, arith, length, option_map, refl, sym}
 use Rattle.std.specs.List.{position, slice_get}
 use Rattle.std.specs.Option.{option_or}
 use Rattle.std.proofs.lemmas.List.{length-take, take_all}
-use Rattle.td_catalog.specs.Database.{BaseRelvar, Database, VirtualRelvar, base_named, with_virtuals}
-use Rattle.td_eval.specs.DatabaseWorlds.{with_other, with_virtual_value, world_of, world_of_bases}
-use Rattle.td_eval.specs.declared.sight.Sight.{Sight}
-use Rattle.td_eval.specs.code.Sights.{IsNoVirtualRelvar, IsVirtualRelvar, held_relation, other_named, other_seen, seen_by, with_first_virtuals}
-use Rattle.td_eval.specs.TreeValues.{value_of}
-use Rattle.td_eval.specs.Worlds.{World}
+use Rattle.td_catalog.specs.model.Database.{BaseRelvar, Database, VirtualRelvar, base_named, with_virtuals}
+use Rattle.td_eval.specs.model.DatabaseWorlds.{with_other, with_virtual_value, world_of, world_of_bases}
+use Rattle.td_eval.specs.declared.lent_world.LentWorld.{LentWorld}
+use Rattle.td_eval.specs.code.LentWorlds.{IsNoVirtualRelvar, IsVirtualRelvar, held_relation, other_named, other_seen, seen_by, with_first_virtuals}
+use Rattle.td_eval.specs.model.TreeValues.{value_of}
+use Rattle.td_eval.specs.model.Worlds.{World}
 use Rattle.td_eval.proofs.code_lemmas.AddedInTurn.{found_there, placed, placed_first, placed_none, unplaced}
 use Rattle.td_eval.proofs.code_lemmas.WorldParts.{base_value, relvar_at, virtual_name, virtual_value}
-use Rattle.td_tree.specs.Outcomes.{Outcome, Valued}
-use Rattle.td_tree.specs.Trees.{Tree}
-use Rattle.td_types.specs.Types.{same_name}
-use Rattle.td_value.specs.Values.{Val, Relation, relation_value}
+use Rattle.td_tree.specs.model.Outcomes.{Outcome, Valued}
+use Rattle.td_tree.specs.model.Trees.{Tree}
+use Rattle.td_types.specs.model.Types.{same_name}
+use Rattle.td_value.specs.model.Values.{Val, Relation, relation_value}
 
 -- a relation that a relvar has
 abbrev pub as_outcome : Relation → Outcome Val
@@ -117,49 +117,49 @@ never_missing n vs p place none =
     let found = found_there virtual_name vs n p there.0 there.1 in
     (let both : Some found.0.tree ≡ None = sym (ap (option_map (λ (v : VirtualRelvar). v.tree)) found.2) ∙ none in cc)
 
--- ---- of a sight
+-- ---- of a lent world
 
-module _ {B : Type 0} (sight : Sight B) (n : List ℕ) where
+module _ {B : Type 0} (lent : LentWorld B) (n : List ℕ) where
   -- what is held
-  pub held_other : (c : _) → sight.catalog ≡ Some c → (r : Relation) → Some r ≡ other_named n (other_seen sight) → Some r ≡ held_relation sight n
+  pub held_other : (c : _) → lent.catalog ≡ Some c → (r : Relation) → Some r ≡ other_named n (other_seen lent) → Some r ≡ held_relation lent n
   held_other c some r is = rw some (ap (λ o. option_or o (option_map (λ (b : BaseRelvar). b.relation) (base_named n c.now.database))) is)
 
-  pub held_base : (c : _) → sight.catalog ≡ Some c → None ≡ other_named n (other_seen sight) → (b : BaseRelvar) → Some b ≡ base_named n c.now.database
-      → Some b.relation ≡ held_relation sight n
+  pub held_base : (c : _) → lent.catalog ≡ Some c → None ≡ other_named n (other_seen lent) → (b : BaseRelvar) → Some b ≡ base_named n c.now.database
+      → Some b.relation ≡ held_relation lent n
   held_base c some none b is =
       rw some
       (ap (option_map (λ (b : BaseRelvar). b.relation)) is ∙ ap (λ o. option_or o (option_map (λ (b : BaseRelvar). b.relation) (base_named n c.now.database))) none)
 
-  pub held_none : (c : _) → sight.catalog ≡ Some c → None ≡ other_named n (other_seen sight) → None ≡ base_named n c.now.database → None ≡ held_relation sight n
+  pub held_none : (c : _) → lent.catalog ≡ Some c → None ≡ other_named n (other_seen lent) → None ≡ base_named n c.now.database → None ≡ held_relation lent n
   held_none c some none is =
       rw some
       (ap (option_map (λ (b : BaseRelvar). b.relation)) is ∙ ap (λ o. option_or o (option_map (λ (b : BaseRelvar). b.relation) (base_named n c.now.database))) none)
 
   -- is what the relvar has
-  pub held_seen : (r : Relation) → held_relation sight n ≡ Some r → (seen_by sight).relvar n ≡ Some (as_outcome r)
-  held_seen r held = by_catalog sight.catalog refl
+  pub held_seen : (r : Relation) → held_relation lent n ≡ Some r → (seen_by lent).relvar n ≡ Some (as_outcome r)
+  held_seen r held = by_catalog lent.catalog refl
     where
-      by_catalog : (c : _) → sight.catalog ≡ c → (seen_by sight).relvar n ≡ Some (as_outcome r)
+      by_catalog : (c : _) → lent.catalog ≡ c → (seen_by lent).relvar n ≡ Some (as_outcome r)
       by_catalog None none = let clash : None ≡ Some r = sym (rw none refl) ∙ held in absurd (cc)
-      by_catalog (Some catalog) some = rw some (seen_held (other_seen sight) catalog.now.database sight.virtuals n r (sym (rw some refl) ∙ held))
+      by_catalog (Some catalog) some = rw some (seen_held (other_seen lent) catalog.now.database lent.virtuals n r (sym (rw some refl) ∙ held))
 
-  pub is_virtual : (c : _) (p : ℕ) (tree : Tree) → sight.catalog ≡ Some c → position (λ (v : VirtualRelvar). same_name v.name n) c.now.database.virtuals ≡ Some p
-      → p < sight.virtuals → option_map (λ (v : VirtualRelvar). v.tree) (slice_get c.now.database.virtuals p) ≡ Some tree → IsVirtualRelvar sight n p tree
+  pub is_virtual : (c : _) (p : ℕ) (tree : Tree) → lent.catalog ≡ Some c → position (λ (v : VirtualRelvar). same_name v.name n) c.now.database.virtuals ≡ Some p
+      → p < lent.virtuals → option_map (λ (v : VirtualRelvar). v.tree) (slice_get c.now.database.virtuals p) ≡ Some tree → IsVirtualRelvar lent n p tree
   is_virtual c p tree some place early entry =
       record {
         known = early;
         entry = rw some entry;
-        value = λ held. rw some (seen_virtual (other_seen sight) c.now.database sight.virtuals n p tree (rw some at held) place early entry);
+        value = λ held. rw some (seen_virtual (other_seen lent) c.now.database lent.virtuals n p tree (rw some at held) place early entry);
       }
 
-  pub is_none : (c : _) → sight.catalog ≡ Some c → position (λ (v : VirtualRelvar). same_name v.name n) c.now.database.virtuals ≡ None → IsNoVirtualRelvar sight n
-  is_none c some none held = rw some (seen_none (other_seen sight) c.now.database sight.virtuals n (rw some at held) none)
+  pub is_none : (c : _) → lent.catalog ≡ Some c → position (λ (v : VirtualRelvar). same_name v.name n) c.now.database.virtuals ≡ None → IsNoVirtualRelvar lent n
+  is_none c some none held = rw some (seen_none (other_seen lent) c.now.database lent.virtuals n (rw some at held) none)
 
-  pub is_late : (c : _) (p : ℕ) → sight.catalog ≡ Some c → position (λ (v : VirtualRelvar). same_name v.name n) c.now.database.virtuals ≡ Some p → sight.virtuals ≤ p
-      → IsNoVirtualRelvar sight n
-  is_late c p some place late held = rw some (seen_late (other_seen sight) c.now.database sight.virtuals n p (rw some at held) place late)
+  pub is_late : (c : _) (p : ℕ) → lent.catalog ≡ Some c → position (λ (v : VirtualRelvar). same_name v.name n) c.now.database.virtuals ≡ Some p → lent.virtuals ≤ p
+      → IsNoVirtualRelvar lent n
+  is_late c p some place late held = rw some (seen_late (other_seen lent) c.now.database lent.virtuals n p (rw some at held) place late)
 
-  pub is_outside : sight.catalog ≡ None → IsNoVirtualRelvar sight n
+  pub is_outside : lent.catalog ≡ None → IsNoVirtualRelvar lent n
   is_outside none held = rw none refl
 
 -- ---- of a whole database

@@ -3,20 +3,20 @@ use Rattle.std.proofs.Common.{◌≡◌, ◌∙◌, ℕ, Err, List, Ok, Result, 
 use Rattle.std.proofs.lemmas.List.{length-map}
 use Rattle.std.specs.Global.{Vec}
 use Rattle.std.specs.Prelude.{IfOk}
-use Rattle.td_algebra.specs.Columns.{columns_view}
+use Rattle.td_algebra.specs.code.Columns.{columns_view}
 use Rattle.td_algebra.specs.declared.extension.Column.{Column}
-use Rattle.td_check.specs.Scopes.{Scope}
-use Rattle.td_check.specs.StaticTypes.{named_types}
+use Rattle.td_check.specs.model.Scopes.{Scope}
+use Rattle.td_check.specs.model.StaticTypes.{named_types}
 use Rattle.td_eval.proofs.code_lemmas.WalkedLists.{as_many_types}
 use Rattle.td_eval.specs.code.NewColumns.{AreColumnsFor, named_columns}
 use Rattle.td_tree.specs.declared.expression.NamedExpr.{NamedExpr}
 use Rattle.td_tree.specs.declared.fault.Fault.{Fault}
-use Rattle.td_tree.specs.Outcomes.{Answers, Outcome, Valued, gathered}
+use Rattle.td_tree.specs.model.Outcomes.{Answers, Outcome, Valued, gathered}
 use Rattle.td_tree.specs.code.TreeViews.{named_view}
 use Rattle.td_types.specs.declared.ty.Ty.{Ty}
 use Rattle.td_types.specs.code.Pairs.{pair_view}
 use Rattle.td_types.specs.code.Views.{pairs_view}
-use Rattle.td_value.specs.Values.{Tuple, Val}
+use Rattle.td_value.specs.model.Values.{Tuple, Val}
 
 -- the types of parts give as many attributes
 pub as_many_found : (scope : Scope) (parts : List NamedExpr) (xs ys : List (List ℕ × Ty)) → ys ≡ xs

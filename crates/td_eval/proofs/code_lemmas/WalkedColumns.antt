@@ -3,24 +3,24 @@ use Rattle.std.proofs.Common.{◌≡◌, ◌∙◌, ◌<◌, ◌≤◌, ℕ, suc
 use Rattle.std.proofs.lemmas.List.Elements.{All-cons, All-nil}
 use Rattle.std.proofs.lemmas.Slice.Zip.{get_or-zip}
 use Rattle.std.specs.List.{zip}
-use Rattle.td_algebra.specs.Columns.{AreColumns, AreColumnsOf, IsColumn, NamedColumn, column_attributes, column_of}
+use Rattle.td_algebra.specs.code.Columns.{AreColumns, AreColumnsOf, IsColumn, NamedColumn, column_attributes, column_of}
 use Rattle.td_eval.proofs.code_lemmas.TypedValues.{type_is}
 use Rattle.td_eval.specs.code.NewColumns.{named_columns, with_values}
-use Rattle.td_eval.specs.OperatorValues.{additions_of, column_values, columns_values, value_of_type, value_or_false}
-use Rattle.td_eval.specs.TreeValues.{value_of, values_in_tuples}
-use Rattle.td_eval.specs.Worlds.{World}
-use Rattle.td_check.specs.OperatorTypes.{same_type}
+use Rattle.td_eval.specs.model.OperatorValues.{additions_of, column_values, columns_values, value_of_type, value_or_false}
+use Rattle.td_eval.specs.model.TreeValues.{value_of, values_in_tuples}
+use Rattle.td_eval.specs.model.Worlds.{World}
+use Rattle.td_check.specs.model.OperatorTypes.{same_type}
 use Rattle.td_tree.proofs.code_lemmas.Gatherings.{named_of_both}
 use Rattle.td_tree.specs.declared.cause.Cause.TheVariants as causes
 use Rattle.td_tree.specs.declared.expression.NamedExpr.{NamedExpr}
-use Rattle.td_tree.specs.Gatherings.{lesser_cause}
-use Rattle.td_tree.specs.Outcomes.{Outcome, Valued, Refused, gathered, named_cause, with_both, with_value}
+use Rattle.td_tree.specs.code.Gatherings.{lesser_cause}
+use Rattle.td_tree.specs.model.Outcomes.{Outcome, Valued, Refused, gathered, named_cause, with_both, with_value}
 use Rattle.td_tree.specs.code.TreeViews.{named_view, tree_view}
 use Rattle.td_types.proofs.OutcomeLaws.{valued_is, value_of_test, value_of_with, values_of_both}
 use Rattle.td_types.specs.declared.ty.Ty.{Ty}
-use Rattle.td_types.specs.Types.{Attribute, Type'}
+use Rattle.td_types.specs.model.Types.{Attribute, Type'}
 use Rattle.td_types.specs.code.Views.{pairs_view, type_view}
-use Rattle.td_value.specs.Values.{Tuple, Val, type_of}
+use Rattle.td_value.specs.model.Values.{Tuple, Val, type_of}
 
 -- ---- one column
 

@@ -2,21 +2,21 @@
 use Rattle.std.proofs.Common.{◌≡◌, ◌∙◌, Bool, true, false, List, Some, Result, Err, ap, length, refl, subst, sym}
 use Rattle.std.specs.Prelude.{◌&&◌, not}
 use Rattle.std.specs.List.{list_all}
-use Rattle.td_algebra.specs.Columns.{AreColumns, AreColumnsOf, NamedColumn, column_attributes}
-use Rattle.td_algebra.specs.Operators.{extended_relation}
-use Rattle.td_check.specs.OperatorTypes.{extended_by}
+use Rattle.td_algebra.specs.code.Columns.{AreColumns, AreColumnsOf, NamedColumn, column_attributes}
+use Rattle.td_algebra.specs.model.Operators.{extended_relation}
+use Rattle.td_check.specs.model.OperatorTypes.{extended_by}
 use Rattle.td_eval.proofs.code_lemmas.WalkedColumns.{attributes_given, columns_cause, columns_given}
 use Rattle.td_eval.specs.code.NewColumns.{named_columns}
-use Rattle.td_eval.specs.OperatorValues.{additions_of, columns_values, extended_value, of_relation, on_relation}
+use Rattle.td_eval.specs.model.OperatorValues.{additions_of, columns_values, extended_value, of_relation, on_relation}
 use Rattle.td_tree.specs.declared.cause.Cause.{Cause}
 use Rattle.td_tree.specs.declared.cause.Cause.TheVariants as causes
 use Rattle.td_tree.specs.declared.fault.Fault.{Fault}
 use Rattle.td_tree.specs.declared.fault.Fault.TheVariants as faults
-use Rattle.td_tree.specs.Outcomes.{Answers, Outcome, Valued, Refused, gathered, named_cause, with_value}
+use Rattle.td_tree.specs.model.Outcomes.{Answers, Outcome, Valued, Refused, gathered, named_cause, with_value}
 use Rattle.td_types.proofs.OutcomeLaws.{valued_is, value_of_test, value_of_with}
-use Rattle.td_types.specs.Headings.{are_distinct, has_attribute, have_no_common}
-use Rattle.td_types.specs.Types.{Attribute, Heading, attribute_names}
-use Rattle.td_value.specs.Values.{Relation, Tuple, Val, boolean, char, integer, relation, tuple, user}
+use Rattle.td_types.specs.model.Headings.{are_distinct, has_attribute, have_no_common}
+use Rattle.td_types.specs.model.Types.{Attribute, Heading, attribute_names}
+use Rattle.td_value.specs.model.Values.{Relation, Tuple, Val, boolean, char, integer, relation, tuple, user}
 
 -- what follows of the relation that a value is
 pub related : {A : Type 0} (v : Val) (r : Relation) (f : Relation → Outcome A) → on_relation v Valued ≡ Valued r → on_relation v f ≡ f r

@@ -1,12 +1,12 @@
 -- What stands where WITH's items are in scope, by one item after another.
 use Rattle.std.proofs.Common.{◌≡◌, ◌∙◌, ◌+◌, ◌<◌, ◌≤◌, List, [], ◌∷◌, ℕ, ap, drop, get_or, length, sym}
 use Rattle.std.proofs.lemmas.List.{drop_all, drop_more}
-use Rattle.td_eval.specs.TreeValues.{value_of, value_where_bound}
-use Rattle.td_eval.specs.Worlds.{World}
+use Rattle.td_eval.specs.model.TreeValues.{value_of, value_where_bound}
+use Rattle.td_eval.specs.model.Worlds.{World}
 use Rattle.td_tree.specs.declared.expression.NamedExpr.{NamedExpr}
-use Rattle.td_tree.specs.Outcomes.{Outcome, with_value}
+use Rattle.td_tree.specs.model.Outcomes.{Outcome, with_value}
 use Rattle.td_tree.specs.code.TreeViews.{named_view, tree_view}
-use Rattle.td_value.specs.Values.{Tuple, Val}
+use Rattle.td_value.specs.model.Values.{Tuple, Val}
 
 module _ (w : World) (inside : List Tuple → Outcome Val) where
   -- what stands where the items from a place on are in scope

@@ -3,21 +3,21 @@ use Rattle.std.proofs.Common.{◌≡◌, ◌≤◌, ◌∙◌, ℕ, suc, List, [
 use Rattle.std.proofs.lemmas.List.{length-map, map-id, take_all}
 use Rattle.std.specs.Global.{Vec}
 use Rattle.std.specs.Prelude.{IfOk}
-use Rattle.td_eval.specs.TreeValues.{argument_values, entry_values, value_of, values_in_tuples}
-use Rattle.td_eval.specs.Worlds.{World}
-use Rattle.td_check.specs.Scopes.{Scope}
-use Rattle.td_check.specs.StaticTypes.{named_types, type_of}
+use Rattle.td_eval.specs.model.TreeValues.{argument_values, entry_values, value_of, values_in_tuples}
+use Rattle.td_eval.specs.model.Worlds.{World}
+use Rattle.td_check.specs.model.Scopes.{Scope}
+use Rattle.td_check.specs.model.StaticTypes.{named_types, type_of}
 use Rattle.td_tree.proofs.code_lemmas.Gatherings.{answers_gathered}
 use Rattle.td_tree.specs.declared.cause.Cause.{Cause}
 use Rattle.td_tree.specs.declared.expression.Expr.{Expr}
 use Rattle.td_tree.specs.declared.expression.NamedExpr.{NamedExpr}
 use Rattle.td_tree.specs.declared.fault.Fault.{Fault}
-use Rattle.td_tree.specs.Gatherings.{IsGathered, answer_of}
-use Rattle.td_tree.specs.Outcomes.{Answers, Outcome, Valued, Refused, gathered, with_both, with_value}
+use Rattle.td_tree.specs.code.Gatherings.{IsGathered, answer_of}
+use Rattle.td_tree.specs.model.Outcomes.{Answers, Outcome, Valued, Refused, gathered, with_both, with_value}
 use Rattle.td_tree.specs.code.TreeViews.{named_view, tree_view, trees_view}
 use Rattle.td_types.proofs.OutcomeLaws.{valued_is, values_of_both}
-use Rattle.td_types.specs.Types.{Attribute}
-use Rattle.td_value.specs.Values.{Tuple, Val}
+use Rattle.td_types.specs.model.Types.{Attribute}
+use Rattle.td_value.specs.model.Values.{Tuple, Val}
 
 -- there are as many values as outcomes
 pub as_many : {A : Type 0} (os : List (Outcome A)) (xs : List A) → gathered os ≡ Valued xs → length xs ≡ length os

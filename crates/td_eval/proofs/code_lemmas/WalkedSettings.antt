@@ -1,20 +1,20 @@
 -- What is answered of attributes that are set, by what is answered of their columns.
 use Rattle.std.proofs.Common.{◌≡◌, ◌∙◌, Bool, true, false, List, Err, Result, Some, ap, length, sym}
 use Rattle.std.specs.Prelude.{⊤}
-use Rattle.td_algebra.specs.Columns.{AreColumns, AreColumnsOf, NamedColumn, column_attributes}
-use Rattle.td_algebra.specs.Operators.{set_relation}
-use Rattle.td_check.specs.OperatorTypes.{set_heading}
+use Rattle.td_algebra.specs.code.Columns.{AreColumns, AreColumnsOf, NamedColumn, column_attributes}
+use Rattle.td_algebra.specs.model.Operators.{set_relation}
+use Rattle.td_check.specs.model.OperatorTypes.{set_heading}
 use Rattle.td_eval.proofs.code_lemmas.WalkedColumns.{attributes_given, columns_cause, columns_given}
 use Rattle.td_eval.proofs.code_lemmas.WalkedExtension.{refused_still}
 use Rattle.td_eval.specs.code.NewColumns.{named_columns}
-use Rattle.td_eval.specs.OperatorValues.{additions_of, columns_values, extended_by_settings, of_relation, set_value}
+use Rattle.td_eval.specs.model.OperatorValues.{additions_of, columns_values, extended_by_settings, of_relation, set_value}
 use Rattle.td_tree.specs.declared.cause.Cause.TheVariants as causes
 use Rattle.td_tree.specs.declared.fault.Fault.{Fault}
 use Rattle.td_tree.specs.declared.fault.Fault.TheVariants as faults
-use Rattle.td_tree.specs.Outcomes.{Answers, Outcome, Valued, gathered, named_cause, value_if, with_value}
-use Rattle.td_types.specs.Headings.{are_distinct, heading_union, outside}
-use Rattle.td_types.specs.Types.{Attribute, attribute_names}
-use Rattle.td_value.specs.Values.{Relation, Tuple, Val}
+use Rattle.td_tree.specs.model.Outcomes.{Answers, Outcome, Valued, gathered, named_cause, value_if, with_value}
+use Rattle.td_types.specs.model.Headings.{are_distinct, heading_union, outside}
+use Rattle.td_types.specs.model.Types.{Attribute, attribute_names}
+use Rattle.td_value.specs.model.Values.{Relation, Tuple, Val}
 
 module _ (attributes : List Attribute) (fs : List (Tuple → Outcome Val)) (r : Relation) where
   -- columns that are refused

@@ -4,41 +4,41 @@ use Rattle.std.proofs.lemmas.List.{length-map}
 use Rattle.std.specs.Global.{Vec}
 use Rattle.std.specs.List.{list_all, zip}
 use Rattle.std.specs.Prelude.{◌&&◌}
-use Rattle.td_algebra.specs.Columns.{NamedColumn}
-use Rattle.td_algebra.specs.Operators.{common_names, restriction}
+use Rattle.td_algebra.specs.code.Columns.{NamedColumn}
+use Rattle.td_algebra.specs.model.Operators.{common_names, restriction}
 use Rattle.td_algebra.proofs.Members.{both_true, first_true, second_true}
-use Rattle.td_check.specs.OperatorTypes.{aggregate_type}
-use Rattle.td_check.specs.Scopes.{Scope}
-use Rattle.td_check.specs.StaticTypes.{type_of}
+use Rattle.td_check.specs.model.OperatorTypes.{aggregate_type}
+use Rattle.td_check.specs.model.Scopes.{Scope}
+use Rattle.td_check.specs.model.StaticTypes.{type_of}
 use Rattle.td_eval.proofs.code_lemmas.SummaryParts.{first_valued, named_first}
 use Rattle.td_eval.proofs.code_lemmas.WalkedLists.{as_many}
-use Rattle.td_eval.specs.AggregateValues.{Summand, aggregate_of, group_values, summarized_value, summary_attributes, summary_in, takes}
+use Rattle.td_eval.specs.model.AggregateValues.{Summand, aggregate_of, group_values, summarized_value, summary_attributes, summary_in, takes}
 use Rattle.td_eval.specs.code.NewColumns.{named_columns, with_values}
-use Rattle.td_eval.specs.OperatorValues.{extended_value, value_of_type}
+use Rattle.td_eval.specs.model.OperatorValues.{extended_value, value_of_type}
 use Rattle.td_eval.specs.code.Totals.{Total, asked_by, attribute_found, term_in, total_columns, total_of, total_values, total_view}
-use Rattle.td_eval.specs.TreeValues.{items_in_tuples}
-use Rattle.td_eval.specs.Worlds.{World}
-use Rattle.td_group.specs.Aggregates.{aggregate}
-use Rattle.td_group.specs.Groups.{groups, groups_on}
+use Rattle.td_eval.specs.model.TreeValues.{items_in_tuples}
+use Rattle.td_eval.specs.model.Worlds.{World}
+use Rattle.td_group.specs.model.Aggregates.{aggregate}
+use Rattle.td_group.specs.model.Groups.{groups, groups_on}
 use Rattle.td_group.specs.declared.aggregates.Agg.{Agg}
 use Rattle.td_tree.specs.declared.expression.Summary.{Summary}
 use Rattle.td_tree.specs.declared.expression.Summary.TheVariants as summaries
 use Rattle.td_tree.specs.declared.fault.Fault.{Fault}
 use Rattle.td_tree.specs.declared.fault.Fault.TheVariants as faults
 use Rattle.td_tree.specs.declared.cause.Cause.TheVariants as causes
-use Rattle.td_tree.specs.Gatherings.{lesser_cause}
+use Rattle.td_tree.specs.code.Gatherings.{lesser_cause}
 use Rattle.td_tree.proofs.code_lemmas.Gatherings.{named_of_both}
 use Rattle.td_eval.proofs.code_lemmas.WalkedExtension.{refused_still}
-use Rattle.td_tree.specs.Outcomes.{Answers, Outcome, Valued, Refused, gathered, named_cause, value_if, with_both, with_value}
+use Rattle.td_tree.specs.model.Outcomes.{Answers, Outcome, Valued, Refused, gathered, named_cause, value_if, with_both, with_value}
 use Rattle.td_tree.specs.code.TreeViews.{summaries_view, tree_view}
 use Rattle.td_types.proofs.OutcomeLaws.{valued_is, value_of_with, values_of_both}
 use Rattle.td_types.specs.declared.ty.Ty.{Ty}
-use Rattle.td_types.specs.Headings.{agree, has_attribute, is_part, is_type_or_none}
-use Rattle.td_types.specs.Types.{Attribute, Heading, Type', type_at}
-use Rattle.td_types.specs.Types as types
+use Rattle.td_types.specs.model.Headings.{agree, has_attribute, is_part, is_type_or_none}
+use Rattle.td_types.specs.model.Types.{Attribute, Heading, Type', type_at}
+use Rattle.td_types.specs.model.Types as types
 use Rattle.td_types.specs.code.Views.{pairs_view, type_view}
-use Rattle.td_value.specs.Agreement.{agree_on}
-use Rattle.td_value.specs.Values.{Relation, Tuple, Val}
+use Rattle.td_value.specs.model.Agreement.{agree_on}
+use Rattle.td_value.specs.model.Values.{Relation, Tuple, Val}
 
 -- ---- aggregates
 

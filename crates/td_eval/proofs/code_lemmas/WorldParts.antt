@@ -1,14 +1,14 @@
 -- What the world of a database knows: the scope of the database, the selectors of its types, and the relations of its base
 -- relvars.
 use Rattle.std.proofs.Common.{◌≡◌, ◌∙◌, ◌∷◌, ◌++◌, ℕ, List, [], Option, Some, append-nil, append_assoc, ap, fold, map, option_map, refl, sym}
-use Rattle.td_catalog.specs.Database.{BaseRelvar, Database, VirtualRelvar, base_named, database_scope, known_base, known_virtual}
-use Rattle.td_check.specs.Scopes.{KnownRelvar, Scope}
-use Rattle.td_eval.specs.DatabaseWorlds.{selectors_of, with_virtual_value, world_of, world_of_bases}
-use Rattle.td_eval.specs.TreeValues.{value_of}
-use Rattle.td_eval.specs.Worlds.{World}
+use Rattle.td_catalog.specs.model.Database.{BaseRelvar, Database, VirtualRelvar, base_named, database_scope, known_base, known_virtual}
+use Rattle.td_check.specs.model.Scopes.{KnownRelvar, Scope}
+use Rattle.td_eval.specs.model.DatabaseWorlds.{selectors_of, with_virtual_value, world_of, world_of_bases}
+use Rattle.td_eval.specs.model.TreeValues.{value_of}
+use Rattle.td_eval.specs.model.Worlds.{World}
 use Rattle.td_eval.proofs.code_lemmas.AddedInTurn.{stays}
-use Rattle.td_tree.specs.Outcomes.{Outcome, Valued}
-use Rattle.td_value.specs.Values.{Val, relation_value}
+use Rattle.td_tree.specs.model.Outcomes.{Outcome, Valued}
+use Rattle.td_value.specs.model.Values.{Val, relation_value}
 
 -- ---- the scope and the selectors
 

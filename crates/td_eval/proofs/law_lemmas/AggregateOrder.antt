@@ -10,26 +10,25 @@ use Rattle.std.proofs.lemmas.Int.{ints}
 use Rattle.std.proofs.lemmas.List.Folds.{sum_by-zero}
 use Rattle.std.proofs.lemmas.List.Sorted.{Contains-permutation, IsPermutation-sym, sum_by-IsPermutation}
 use Rattle.std.proofs.lemmas.List.Sums.{sum_by-cons}
-use Rattle.td_algebra.specs.Operators.{common_names, restriction}
+use Rattle.td_algebra.specs.model.Operators.{common_names, restriction}
 use Rattle.td_algebra.proofs.Lists.{contains_filter, contains_first, contains_map, contains_none}
-use Rattle.td_group.specs.Aggregates.{aggregate, greatest_value, least_value, sum_of, summand}
-use Rattle.td_group.specs.Groups.{groups}
+use Rattle.td_group.specs.model.Aggregates.{aggregate, greatest_value, least_value, sum_of, summand}
+use Rattle.td_group.specs.model.Groups.{groups}
 use Rattle.td_group.specs.declared.aggregates.Agg.{Agg}
 use Rattle.td_group.specs.declared.aggregates.Agg.TheVariants as asked
 use Rattle.td_group.proofs.Extremes.{greatest_is_a_member, least_is_a_member}
 use Rattle.td_tree.specs.declared.cause.Cause.{Cause}
 use Rattle.td_tree.specs.declared.cause.Cause.TheVariants as causes
-use Rattle.td_tree.specs.Outcomes.{Only, Outcome, Valued, Refused, gathered, value_if, with_value}
-use Rattle.td_types.specs.Headings.{is_part}
-use Rattle.td_types.specs.Types.{Attribute}
+use Rattle.td_tree.specs.model.Outcomes.{Only, Outcome, Valued, Refused, gathered, value_if, with_value}
+use Rattle.td_types.specs.model.Headings.{is_part}
+use Rattle.td_types.specs.model.Types.{Attribute}
 use Rattle.td_types.proofs.OutcomeLaws.{valued_is, values_of_both}
-use Rattle.td_value.specs.Agreement.{agree_on}
-use Rattle.td_value.specs.ValueOrder.{order_same, order_total}
-use Rattle.td_value.specs.Values.{Val, HaveSameMembers, Relation, Tuple, of_number, value_cmp}
-use Rattle.td_value.specs.code.Views.{relation_view}
-use Rattle.td_eval.specs.AggregateValues.{Summand, aggregate_of, aggregated_value, group_values, group_with, summarized_value, summary_in, takes}
-use Rattle.td_eval.specs.OperatorValues.{extended_value, value_or_false}
-use Rattle.td_eval.specs.ValueLaws.{AreOneOutcome, TupleOrderDoesNotCount}
+use Rattle.td_value.specs.model.Agreement.{agree_on}
+use Rattle.td_value.specs.code.ValueOrder.{order_same, order_total}
+use Rattle.td_value.specs.model.Values.{Val, HaveSameMembers, Relation, Tuple, of_number, value_cmp, relation_view}
+use Rattle.td_eval.specs.model.AggregateValues.{Summand, aggregate_of, aggregated_value, group_values, group_with, summarized_value, summary_in, takes}
+use Rattle.td_eval.specs.model.OperatorValues.{extended_value, value_or_false}
+use Rattle.td_eval.specs.laws.ValueLaws.{AreOneOutcome, TupleOrderDoesNotCount}
 use Rattle.td_eval.proofs.law_lemmas.AlikeRows.{AreAlikeIn, extended_alike}
 use Rattle.td_eval.proofs.code_lemmas.KeepsExtension.{gathered_member}
 use Rattle.td_eval.proofs.law_lemmas.TupleOrder.{AreAlike, Refuses, extended, follows, gathered_alike, one_itself, one_order, restricted, settings}

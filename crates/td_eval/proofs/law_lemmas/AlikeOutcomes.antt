@@ -1,13 +1,12 @@
 -- What follows of an outcome is the same where it is the same of its value.
 use Rattle.std.proofs.Common.{◌≡◌, List, refl}
-use Rattle.td_tree.specs.Outcomes.{Outcome, Valued, Refused, with_both, with_value}
-use Rattle.td_types.specs.TypeLists.{DeclaredType}
-use Rattle.td_types.specs.Types.{Type', Attrs, pack, unpack}
-use Rattle.td_types.specs.Types as types
-use Rattle.td_value.specs.Values.{Val, boolean, integer, char, relation_value, user, tuple, relation, Relation, unpack_rows}
-use Rattle.td_value.specs.code.Views.{relation_view}
-use Rattle.td_eval.specs.OperatorValues.{on_relation}
-use Rattle.td_eval.specs.ValueTypes.{IsOfType, KeepsType}
+use Rattle.td_tree.specs.model.Outcomes.{Outcome, Valued, Refused, with_both, with_value}
+use Rattle.td_types.specs.model.TypeLists.{DeclaredType}
+use Rattle.td_types.specs.model.Types.{Type', Attrs, pack, unpack}
+use Rattle.td_types.specs.model.Types as types
+use Rattle.td_value.specs.model.Values.{Val, boolean, integer, char, relation_value, user, tuple, relation, Relation, unpack_rows, relation_view}
+use Rattle.td_eval.specs.model.OperatorValues.{on_relation}
+use Rattle.td_eval.specs.laws.ValueTypes.{IsOfType, KeepsType}
 use Rattle.td_eval.proofs.code_lemmas.TypedRows.{parts_typed}
 
 -- what follows of a value is the same

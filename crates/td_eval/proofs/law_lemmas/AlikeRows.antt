@@ -2,17 +2,16 @@
 use Rattle.std.proofs.Common.{◌≡◌, ◌++◌, ℕ, Bool, List, [], ◌∷◌, ap, filter, map, not, refl}
 use Rattle.std.specs.Prelude.{if◌then◌else◌, ⊤}
 use Rattle.std.specs.List.{Contains}
-use Rattle.td_algebra.specs.Operators.{added_attributes, added_values, extended_relation, extended_tuple, set_relation, set_tuple}
+use Rattle.td_algebra.specs.model.Operators.{added_attributes, added_values, extended_relation, extended_tuple, set_relation, set_tuple}
 use Rattle.td_algebra.proofs.Lists.{contains_first, contains_later}
-use Rattle.td_check.specs.OperatorTypes.{extended_by, set_heading}
-use Rattle.td_tree.specs.Outcomes.{Outcome, Valued, Refused, gathered, with_value}
-use Rattle.td_types.specs.Headings.{has_attribute, heading_union, outside}
-use Rattle.td_types.specs.Types.{Attribute}
-use Rattle.td_value.specs.Values.{Val, Relation, Tuple, relation_of, tuple_of}
-use Rattle.td_value.specs.code.Views.{relation_view}
-use Rattle.td_eval.specs.AggregateValues.{aggregate_of, aggregated_value}
+use Rattle.td_check.specs.model.OperatorTypes.{extended_by, set_heading}
+use Rattle.td_tree.specs.model.Outcomes.{Outcome, Valued, Refused, gathered, with_value}
+use Rattle.td_types.specs.model.Headings.{has_attribute, heading_union, outside}
+use Rattle.td_types.specs.model.Types.{Attribute}
+use Rattle.td_value.specs.model.Values.{Val, Relation, Tuple, relation_of, tuple_of, relation_view}
+use Rattle.td_eval.specs.model.AggregateValues.{aggregate_of, aggregated_value}
 use Rattle.td_group.specs.declared.aggregates.Agg.{Agg}
-use Rattle.td_eval.specs.OperatorValues.{additions_of, columns_values, extended_by_settings, extended_value, is_true, of_relation, restricted_value, truth_value, value_of_type, value_or_false}
+use Rattle.td_eval.specs.model.OperatorValues.{additions_of, columns_values, extended_by_settings, extended_value, is_true, of_relation, restricted_value, truth_value, value_of_type, value_or_false}
 
 -- ---- lists
 

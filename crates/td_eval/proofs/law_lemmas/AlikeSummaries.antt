@@ -1,14 +1,14 @@
 -- What SUMMARIZE gives depends only on what its items are of in the tuples of the operand.
 use Rattle.std.proofs.Common.{◌≡◌, ◌∙◌, Bool, true, false, List, [], ◌∷◌, ap, map, refl}
 use Rattle.std.specs.Prelude.{⊤}
-use Rattle.td_group.specs.Groups.{groups}
+use Rattle.td_group.specs.model.Groups.{groups}
 use Rattle.td_tree.specs.declared.cause.Cause.TheVariants as causes
-use Rattle.td_tree.specs.Outcomes.{Outcome, gathered, value_if, with_value}
-use Rattle.td_types.specs.Headings.{is_part}
-use Rattle.td_types.specs.Types.{Attribute}
-use Rattle.td_value.specs.Values.{Relation, Tuple}
-use Rattle.td_eval.specs.AggregateValues.{Summand, aggregated_value, group_values, group_with, summarized_value, summary_in}
-use Rattle.td_eval.specs.OperatorValues.{extended_value}
+use Rattle.td_tree.specs.model.Outcomes.{Outcome, gathered, value_if, with_value}
+use Rattle.td_types.specs.model.Headings.{is_part}
+use Rattle.td_types.specs.model.Types.{Attribute}
+use Rattle.td_value.specs.model.Values.{Relation, Tuple}
+use Rattle.td_eval.specs.model.AggregateValues.{Summand, aggregated_value, group_values, group_with, summarized_value, summary_in}
+use Rattle.td_eval.specs.model.OperatorValues.{extended_value}
 use Rattle.td_eval.proofs.law_lemmas.AlikeRows.{AlikeIn, aggregated_alike, map_alike}
 use Rattle.td_eval.proofs.code_lemmas.SummaryParts.{in_group_with, in_groups}
 

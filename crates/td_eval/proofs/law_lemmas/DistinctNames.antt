@@ -2,8 +2,8 @@
 use Rattle.std.proofs.Common.{◌≡◌, ◌∙◌, ◌∷◌, ◌++◌, ℕ, Bool, true, false, List, [], ap, not, refl, sym, true≢false}
 use Rattle.std.specs.Cmp.Lexicographic.{same_text}
 use Rattle.std.specs.Prelude.{◌||◌}
-use Rattle.td_types.specs.Headings.{are_distinct, has_name}
-use Rattle.td_types.specs.Types.{same_name}
+use Rattle.td_types.specs.model.Headings.{are_distinct, has_name}
+use Rattle.td_types.specs.model.Types.{same_name}
 use Rattle.td_catalog.proofs.Lists.{both, neither, not_true}
 
 pub has_name-append : (n : List ℕ) (xs ys : List (List ℕ)) → has_name n (xs ++ ys) ≡ (has_name n xs || has_name n ys)

@@ -6,26 +6,26 @@ use Rattle.std.specs.Option.{option_or}
 use Rattle.std.specs.Prelude.{if◌then◌else◌, is_some}
 use Rattle.std.specs.Set.{remove_key}
 use Rattle.td_catalog.proofs.Lists.{not_true}
-use Rattle.td_catalog.specs.Database.{BaseRelvar, Database, VirtualRelvar, base_named, database_scope, known_base, known_virtual, virtual_named, without_constraint, without_relvar, without_type}
-use Rattle.td_catalog.specs.TypedDatabases.{IsTypedBase, IsTyped, IsTypedVirtual}
-use Rattle.td_check.specs.Mentions.{relvars_in, types_in}
-use Rattle.td_check.specs.OperatorTypes.{if_type}
-use Rattle.td_check.specs.Scopes.{alone_with, known_relvar, scope_of}
-use Rattle.td_check.specs.StatementTypes.{constraint_fits}
-use Rattle.td_check.specs.StaticLaws.{AgreeAt, AgreeOn, UsersAllIn, UsersIn, is_other}
-use Rattle.td_check.specs.StaticTypes.{type_of}
+use Rattle.td_catalog.specs.model.Database.{BaseRelvar, Database, VirtualRelvar, base_named, database_scope, known_base, known_virtual, virtual_named, without_constraint, without_relvar, without_type}
+use Rattle.td_catalog.specs.model.TypedDatabases.{IsTypedBase, IsTyped, IsTypedVirtual}
+use Rattle.td_check.specs.model.Mentions.{relvars_in, types_in}
+use Rattle.td_check.specs.model.OperatorTypes.{if_type}
+use Rattle.td_check.specs.model.Scopes.{alone_with, known_relvar, scope_of}
+use Rattle.td_check.specs.model.StatementTypes.{constraint_fits}
+use Rattle.td_check.specs.laws.StaticLaws.{AgreeAt, AgreeOn, UsersAllIn, UsersIn, is_other}
+use Rattle.td_check.specs.model.StaticTypes.{type_of}
 use Rattle.td_check.proofs.StaticLaws.{depends, mentions_are_known, more_changes_nothing}
-use Rattle.td_eval.specs.Worlds.{with_tuples}
-use Rattle.td_tree.specs.Outcomes.{Valued, with_value}
-use Rattle.td_tree.specs.Trees.{Tree}
-use Rattle.td_types.specs.Headings.{are_distinct, has_name, heading_from}
-use Rattle.td_types.specs.TypeLists.{AreKnown, DeclaredType, IsKnown, declared_at, is_declared}
-use Rattle.td_types.specs.Types.{Attrs, Type', attr, boolean, char, integer, no_attrs, pack, relation, same_name, tuple, user}
+use Rattle.td_eval.specs.model.Worlds.{with_tuples}
+use Rattle.td_tree.specs.model.Outcomes.{Valued, with_value}
+use Rattle.td_tree.specs.model.Trees.{Tree}
+use Rattle.td_types.specs.model.Headings.{are_distinct, has_name, heading_from}
+use Rattle.td_types.specs.model.TypeLists.{AreKnown, DeclaredType, IsKnown, declared_at, is_declared}
+use Rattle.td_types.specs.model.Types.{Attrs, Type', attr, boolean, char, integer, no_attrs, pack, relation, same_name, tuple, user}
 use Rattle.td_types.proofs.DeclaredTypes.{is_declared-earlier, stands_in}
 use Rattle.td_types.proofs.HeadingLaws.{same_name-itself}
 use Rattle.td_types.proofs.OutcomeLaws.{value_of_with}
 use Rattle.td_types.proofs.RemovedTypes.{declared_at-without, other_name, removed_is_gone}
-use Rattle.td_eval.specs.ValueLaws.{AgreeOnRelvars, AgreeOnTypes, DropsChangeNoValue}
+use Rattle.td_eval.specs.laws.ValueLaws.{AgreeOnRelvars, AgreeOnTypes, DropsChangeNoValue}
 use Rattle.td_eval.proofs.law_lemmas.DistinctNames.{distinct_first, distinct_rest, first_apart}
 use Rattle.td_eval.proofs.law_lemmas.KnownRelvars.{front_has_more, fronted, has_named, known_as_virtual, known_in, named, named_at}
 use Rattle.td_eval.proofs.law_lemmas.MentionedEntries.{values_depend_on_entries}

@@ -2,25 +2,24 @@
 use Rattle.std.proofs.Common.{◌≡◌, ◌∙◌, ℕ, true, List, [], ◌∷◌, None, Option, Some, ap, subst, sym}
 use Rattle.std.specs.Prelude.{is_some}
 use Rattle.td_catalog.proofs.Lists.{not_true}
-use Rattle.td_catalog.specs.Database.{Database, without_type}
-use Rattle.td_catalog.specs.TypedDatabases.{IsTyped}
-use Rattle.td_check.specs.StaticLaws.{is_other}
+use Rattle.td_catalog.specs.model.Database.{Database, without_type}
+use Rattle.td_catalog.specs.model.TypedDatabases.{IsTyped}
+use Rattle.td_check.specs.laws.StaticLaws.{is_other}
 use Rattle.td_eval.proofs.law_lemmas.DroppedEntries.{none_there, other_declared, types_apart}
 use Rattle.td_eval.proofs.law_lemmas.LaterTypes.{AreTypedTypes}
 use Rattle.td_eval.proofs.law_lemmas.LiteralValues.{each, packed_components, selectors_give_what_meets, selects}
 use Rattle.td_eval.proofs.law_lemmas.MentionedTypes.{all_alike}
 use Rattle.td_eval.proofs.law_lemmas.MetConstraints.{OfValues, of_values}
-use Rattle.td_eval.specs.DatabaseWorlds.{world_of}
-use Rattle.td_eval.specs.LiteralValues.{DropsKeepWhatMeets, Selects}
-use Rattle.td_eval.specs.OperatorValues.{components_of}
-use Rattle.td_eval.specs.ValueTypes.{AreComponentsOf}
+use Rattle.td_eval.specs.model.DatabaseWorlds.{world_of}
+use Rattle.td_eval.specs.laws.LiteralValues.{DropsKeepWhatMeets, Selects}
+use Rattle.td_eval.specs.model.OperatorValues.{components_of}
+use Rattle.td_eval.specs.laws.ValueTypes.{AreComponentsOf}
 use Rattle.td_types.proofs.RemovedTypes.{declared_at-without}
-use Rattle.td_types.specs.TypeListLaws.{ConstraintsAreWritten}
-use Rattle.td_types.specs.TypeLists.{AreKnown, DeclaredType, IsKnown, declared_at, is_declared}
-use Rattle.td_types.specs.Types.{Attribute, Attrs, Type', attr, no_attrs, same_name}
-use Rattle.td_types.specs.Types as types
-use Rattle.td_value.specs.KnownValues.{AreOfTypes, HasHeading, HasType, HaveHeading}
-use Rattle.td_value.specs.Values.{Val, boolean, integer, char, user, tuple, relation, AreValues, Fields, no_fields, field, Parts, no_parts, part, Rows, no_rows, row}
+use Rattle.td_types.specs.model.TypeLists.{AreKnown, DeclaredType, IsKnown, declared_at, is_declared, ConstraintsAreWritten}
+use Rattle.td_types.specs.model.Types.{Attribute, Attrs, Type', attr, no_attrs, same_name}
+use Rattle.td_types.specs.model.Types as types
+use Rattle.td_value.specs.model.KnownValues.{AreOfTypes, HasHeading, HasType, HaveHeading}
+use Rattle.td_value.specs.model.Values.{Val, boolean, integer, char, user, tuple, relation, AreValues, Fields, no_fields, field, Parts, no_parts, part, Rows, no_rows, row}
 
 -- ---- values of types that are all declared elsewhere
 

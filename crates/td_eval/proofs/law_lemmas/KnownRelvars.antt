@@ -5,20 +5,20 @@ use Rattle.std.specs.Option.{option_or}
 use Rattle.std.specs.Prelude.{◌||◌, if◌then◌else◌, is_some}
 use Rattle.std.proofs.lemmas.List.{map-append}
 use Rattle.std.proofs.lemmas.List.Sums.{fold-append}
-use Rattle.td_catalog.specs.Database.{BaseRelvar, Database, VirtualRelvar, base_among, base_named, database_scope, known_base, known_virtual, relvar_names, virtual_named, with_virtuals}
+use Rattle.td_catalog.specs.model.Database.{BaseRelvar, Database, VirtualRelvar, base_among, base_named, database_scope, known_base, known_virtual, relvar_names, virtual_named, with_virtuals}
 use Rattle.td_check.specs.declared.scope.Kind.TheVariants as kinds
-use Rattle.td_check.specs.Scopes.{KnownRelvar, Scope, known_relvar, relvar_in, with_known_relvar}
-use Rattle.td_check.specs.StaticLaws.{HasMore}
-use Rattle.td_eval.specs.DatabaseWorlds.{with_virtual_value, world_of, world_of_bases}
-use Rattle.td_eval.specs.TreeValues.{value_of}
-use Rattle.td_eval.specs.Worlds.{World}
+use Rattle.td_check.specs.model.Scopes.{KnownRelvar, Scope, known_relvar, relvar_in, with_known_relvar}
+use Rattle.td_check.specs.laws.StaticLaws.{HasMore}
+use Rattle.td_eval.specs.model.DatabaseWorlds.{with_virtual_value, world_of, world_of_bases}
+use Rattle.td_eval.specs.model.TreeValues.{value_of}
+use Rattle.td_eval.specs.model.Worlds.{World}
 use Rattle.td_eval.proofs.code_lemmas.AddedInTurn.{listed_none}
 use Rattle.td_eval.proofs.law_lemmas.DistinctNames.{are_apart, has_first, has_name-append, has_rest}
 use Rattle.td_eval.proofs.code_lemmas.WorldParts.{base_value, relvar_at, relvar_stays, virtual_name, virtual_value}
-use Rattle.td_tree.specs.Outcomes.{Outcome, Valued}
-use Rattle.td_types.specs.Headings.{are_distinct, has_name}
-use Rattle.td_types.specs.Types.{same_name}
-use Rattle.td_value.specs.Values.{Val, relation_value}
+use Rattle.td_tree.specs.model.Outcomes.{Outcome, Valued}
+use Rattle.td_types.specs.model.Headings.{are_distinct, has_name}
+use Rattle.td_types.specs.model.Types.{same_name}
+use Rattle.td_value.specs.model.Values.{Val, relation_value}
 
 -- ---- lists
 

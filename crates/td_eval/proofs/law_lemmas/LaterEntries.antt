@@ -6,27 +6,27 @@ use Rattle.std.specs.Prelude.{IsTrue, if◌then◌else◌, is_some}
 use Rattle.std.proofs.lemmas.List.{map-append}
 use Rattle.std.proofs.lemmas.List.Sums.{fold-append}
 use Rattle.td_catalog.proofs.Lists.{distinct_between, not_true}
-use Rattle.td_catalog.specs.Database.{BaseRelvar, Database, NamedConstraint, VirtualRelvar, base_among, base_named, database_scope, known_virtual, knows_relvar, relvar_names, virtual_named, with_base, with_constraint, with_declared, with_virtual}
-use Rattle.td_catalog.specs.TypedDatabases.{IsTyped}
-use Rattle.td_catalog.specs.WrittenDefinitions.{DefinitionsAreWritten}
-use Rattle.td_check.specs.Scopes.{KnownRelvar, Scope, known_relvar}
-use Rattle.td_tree.specs.Outcomes.{Valued}
-use Rattle.td_tree.specs.Trees.{Tree}
-use Rattle.td_types.specs.Headings.{are_distinct, has_name}
-use Rattle.td_types.specs.TypeLists.{DeclaredType}
-use Rattle.td_types.specs.Types.{pack, same_name}
-use Rattle.td_types.specs.Types as types
-use Rattle.td_value.specs.Values.{Tuple, relation_value}
-use Rattle.td_eval.specs.DatabaseWorlds.{Selectors, selectors_of, types_alone, with_selector, world_of}
-use Rattle.td_eval.specs.TreeValues.{value_of}
-use Rattle.td_eval.specs.ValueLaws.{HasLater, IsChecked, LaterEntriesChangeNothing, SelectsTheSame}
-use Rattle.td_eval.specs.Worlds.{World, selector_outcome}
+use Rattle.td_catalog.specs.model.Database.{BaseRelvar, Database, NamedConstraint, VirtualRelvar, base_among, base_named, database_scope, known_virtual, knows_relvar, relvar_names, virtual_named, with_base, with_constraint, with_declared, with_virtual}
+use Rattle.td_catalog.specs.model.TypedDatabases.{IsTyped}
+use Rattle.td_catalog.specs.model.WrittenDefinitions.{DefinitionsAreWritten}
+use Rattle.td_check.specs.model.Scopes.{KnownRelvar, Scope, known_relvar}
+use Rattle.td_tree.specs.model.Outcomes.{Valued}
+use Rattle.td_tree.specs.model.Trees.{Tree}
+use Rattle.td_types.specs.model.Headings.{are_distinct, has_name}
+use Rattle.td_types.specs.model.TypeLists.{DeclaredType}
+use Rattle.td_types.specs.model.Types.{pack, same_name}
+use Rattle.td_types.specs.model.Types as types
+use Rattle.td_value.specs.model.Values.{Tuple, relation_value}
+use Rattle.td_eval.specs.model.DatabaseWorlds.{Selectors, selectors_of, types_alone, with_selector, world_of}
+use Rattle.td_eval.specs.model.TreeValues.{value_of}
+use Rattle.td_eval.specs.laws.ValueLaws.{HasLater, IsChecked, LaterEntriesChangeNothing, SelectsTheSame}
+use Rattle.td_eval.specs.model.Worlds.{World, selector_outcome}
 use Rattle.td_eval.proofs.law_lemmas.KnownRelvars.{fronted, known_as_base, known_as_virtual, known_in_more, known_name, named, named_more, never_none, no_base, of_all, one_more_world, some_of, stays_behind, unnamed}
 use Rattle.td_eval.proofs.law_lemmas.LaterTypes.{AreTypedTypes, all_select, selected_by, stays}
 use Rattle.td_eval.proofs.law_lemmas.MoreWorlds.{HasMoreThan, same_in_more}
 use Rattle.td_eval.proofs.law_lemmas.TypedDatabases.{all_at, database_keeps, fronts_keep}
 use Rattle.td_eval.proofs.code_lemmas.WorldParts.{virtual_name, world_scope, world_selectors}
-use Rattle.td_tree.specs.WrittenTrees.{IsWritten}
+use Rattle.td_tree.specs.model.WrittenTrees.{IsWritten}
 
 module _ (first second : Database) (later : HasLater first second) (is_typed : AreTypedTypes first.types) where
   -- in worlds with the selectors of the first and of the second

@@ -3,42 +3,40 @@ use Rattle.std.proofs.Common.{◌≡◌, ◌∙◌, ◌++◌, ℕ, Bool, true, f
 use Rattle.std.specs.List.{AllByRecursion, zip}
 use Rattle.std.specs.Prelude.{is_some}
 use Rattle.std.proofs.lemmas.List.Sums.{fold-append}
-use Rattle.td_catalog.specs.Database.{Database, VirtualRelvar, database_scope, with_virtuals}
-use Rattle.td_catalog.specs.TypedDatabases.{EachAfter, IsConstrained, IsTyped, IsTypedVirtual}
-use Rattle.td_check.specs.OperatorTypes.{are_types_of, if_type}
-use Rattle.td_check.specs.Scopes.{alone_with, scope_of}
-use Rattle.td_check.specs.StatementTypes.{constraint_fits}
-use Rattle.td_check.specs.StaticTypes.{type_of}
+use Rattle.td_catalog.specs.model.Database.{Database, VirtualRelvar, database_scope, with_virtuals}
+use Rattle.td_catalog.specs.model.TypedDatabases.{EachAfter, IsConstrained, IsTyped, IsTypedVirtual}
+use Rattle.td_check.specs.model.OperatorTypes.{are_types_of, if_type}
+use Rattle.td_check.specs.model.Scopes.{alone_with, scope_of}
+use Rattle.td_check.specs.model.StatementTypes.{constraint_fits}
+use Rattle.td_check.specs.model.StaticTypes.{type_of}
 use Rattle.td_tree.specs.declared.cause.Cause.TheVariants as causes
-use Rattle.td_tree.specs.Names.{IsName}
-use Rattle.td_tree.specs.Outcomes.{Outcome, Valued, value_if, with_value}
-use Rattle.td_tree.specs.Trees.{Tree}
-use Rattle.td_types.specs.Headings.{are_distinct, heading_from}
-use Rattle.td_types.specs.TypeLists.{AreDeclared, AreKnown, DeclaredType, IsDeclarable, declared_at}
-use Rattle.td_types.specs.Types.{Attribute, attribute_names, pack, same_name}
-use Rattle.td_types.specs.Types as types
+use Rattle.td_tree.specs.model.Names.{IsName}
+use Rattle.td_tree.specs.model.Outcomes.{Outcome, Valued, value_if, with_value}
+use Rattle.td_tree.specs.model.Trees.{Tree}
+use Rattle.td_types.specs.model.Headings.{are_distinct, heading_from}
+use Rattle.td_types.specs.model.TypeLists.{AreDeclared, AreKnown, DeclaredType, IsDeclarable, declared_at, ConstraintsAreWritten}
+use Rattle.td_types.specs.model.Types.{Attribute, attribute_names, pack, same_name}
+use Rattle.td_types.specs.model.Types as types
 use Rattle.td_types.proofs.DeclaredTypes.{AreDeclared-front, declared_at-later}
 use Rattle.td_types.proofs.KnownTypes.{declared_more}
 use Rattle.td_types.proofs.OutcomeLaws.{value_of_with}
 use Rattle.td_types.proofs.Ranks.{known_components}
-use Rattle.td_value.specs.KnownValues.{AreOfTypes}
-use Rattle.td_value.specs.Values.{Val, AreValues, Parts, no_parts, part, Tuple, heading_of, made_tuple, pack_parts, selected_value, tuple_names, tuple_of}
-use Rattle.td_value.specs.Values as values
-use Rattle.td_value.specs.code.Views.{user_view}
+use Rattle.td_value.specs.model.KnownValues.{AreOfTypes}
+use Rattle.td_value.specs.model.Values.{Val, AreValues, Parts, no_parts, part, Tuple, heading_of, made_tuple, pack_parts, selected_value, tuple_names, tuple_of, user_view}
+use Rattle.td_value.specs.model.Values as values
 use Rattle.td_value.proofs.KnownValues.{has_its_type}
-use Rattle.td_eval.specs.DatabaseWorlds.{Selectors, constraint_value, selector_value, selectors_of, types_alone, with_selector, world_of_types}
-use Rattle.td_eval.specs.LiteralValues.{CutTypesKeepConstraints}
-use Rattle.td_eval.specs.OperatorValues.{truth_value}
-use Rattle.td_eval.specs.TreeValues.{value_of}
-use Rattle.td_eval.specs.ValueLaws.{IsChecked}
-use Rattle.td_eval.specs.ValueTypes.{AreComponentsOf, KeepsScope}
-use Rattle.td_eval.specs.Worlds.{World, selector_outcome}
+use Rattle.td_eval.specs.model.DatabaseWorlds.{Selectors, constraint_value, selector_value, selectors_of, types_alone, with_selector, world_of_types}
+use Rattle.td_eval.specs.laws.LiteralValues.{CutTypesKeepConstraints}
+use Rattle.td_eval.specs.model.OperatorValues.{truth_value}
+use Rattle.td_eval.specs.model.TreeValues.{value_of}
+use Rattle.td_eval.specs.laws.ValueLaws.{IsChecked}
+use Rattle.td_eval.specs.laws.ValueTypes.{AreComponentsOf, KeepsScope}
+use Rattle.td_eval.specs.model.Worlds.{World, selector_outcome}
 use Rattle.td_eval.proofs.code_lemmas.KeepsGathered.{all_from_members}
 use Rattle.td_eval.proofs.law_lemmas.MoreWorlds.{HasMoreThan, same_in_more}
 use Rattle.td_eval.proofs.law_lemmas.TypedDatabases.{components_known, typed_databases_keep_scopes, shrunk, some_same}
 use Rattle.td_eval.proofs.code_lemmas.TypedRows.{IsTypedEntry, made_typed, own_type}
-use Rattle.td_tree.specs.WrittenTrees.{IsWritten}
-use Rattle.td_types.specs.TypeListLaws.{ConstraintsAreWritten}
+use Rattle.td_tree.specs.model.WrittenTrees.{IsWritten}
 
 -- ---- types that may stand in a typed database
 

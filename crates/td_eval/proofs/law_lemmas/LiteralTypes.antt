@@ -1,24 +1,24 @@
 -- The tree that the literal of a value of a type spells has that type.
 use Rattle.std.proofs.Common.{◌≡◌, ◌∙◌, ◌∷◌, ℕ, true, List, [], ap, map, pos, negsuc, refl, subst, sym}
-use Rattle.td_check.specs.OperatorTypes.{are_types_of, element_type, headed_type, known_or, selector_type, tuple_type}
-use Rattle.td_check.specs.Scopes.{Scope}
-use Rattle.td_check.specs.StaticTypes.{named_types, type_of, types_of}
+use Rattle.td_check.specs.model.OperatorTypes.{are_types_of, element_type, headed_type, known_or, selector_type, tuple_type}
+use Rattle.td_check.specs.model.Scopes.{Scope}
+use Rattle.td_check.specs.model.StaticTypes.{named_types, type_of, types_of}
 use Rattle.td_tree.specs.declared.cause.Cause.TheVariants as causes
-use Rattle.td_tree.specs.Outcomes.{Outcome, Valued, gathered, value_if, with_both, with_value}
-use Rattle.td_tree.specs.Trees as trees
-use Rattle.td_types.specs.Headings.{made_heading}
-use Rattle.td_types.specs.TypeLists.{AreKnown, DeclaredType, heading_meant}
-use Rattle.td_types.specs.TypeOrder.{type_eq-Decides}
-use Rattle.td_types.specs.TypeTrees.{attribute_trees}
-use Rattle.td_types.specs.Types.{Attribute, Attrs, IsHeading, IsType, Type', attr, no_attrs, pack, unpack}
-use Rattle.td_types.specs.Types as types
+use Rattle.td_tree.specs.model.Outcomes.{Outcome, Valued, gathered, value_if, with_both, with_value}
+use Rattle.td_tree.specs.model.Trees as trees
+use Rattle.td_types.specs.model.Headings.{made_heading}
+use Rattle.td_types.specs.model.TypeLists.{AreKnown, DeclaredType, heading_meant}
+use Rattle.td_types.specs.code.TypeOrder.{type_eq-Decides}
+use Rattle.td_types.specs.laws.TypeTrees.{attribute_trees}
+use Rattle.td_types.specs.model.Types.{Attribute, Attrs, IsHeading, IsType, Type', attr, no_attrs, pack, unpack}
+use Rattle.td_types.specs.model.Types as types
 use Rattle.td_types.proofs.Meanings.{heading_itself, means_attributes, pack_unpack}
-use Rattle.td_value.specs.KnownValues.{AreOfTypes, HasHeading, HaveHeading}
-use Rattle.td_value.specs.LiteralTrees.{field_trees, part_trees, row_trees}
-use Rattle.td_value.specs.Values.{boolean, integer, char, user, tuple, relation, AreFields, AreRows, AreValues, Fields, no_fields, field, Parts, no_parts, part, Rows, no_rows, row}
+use Rattle.td_value.specs.model.KnownValues.{AreOfTypes, HasHeading, HaveHeading}
+use Rattle.td_value.specs.laws.LiteralTrees.{field_trees, part_trees, row_trees}
+use Rattle.td_value.specs.model.Values.{boolean, integer, char, user, tuple, relation, AreFields, AreRows, AreValues, Fields, no_fields, field, Parts, no_parts, part, Rows, no_rows, row}
 use Rattle.td_value.proofs.KnownValues.{has_its_type}
 use Rattle.td_value.proofs.Typed.{typed}
-use Rattle.td_eval.specs.LiteralValues.{LiteralsHaveTheirTypes}
+use Rattle.td_eval.specs.laws.LiteralValues.{LiteralsHaveTheirTypes}
 use Rattle.td_eval.proofs.code_lemmas.TypedValues.{same_is}
 
 -- the tree of a heading means it

@@ -6,34 +6,34 @@ use Rattle.std.proofs.lemmas.Bool.Decides.{nat_tests}
 use Rattle.std.proofs.lemmas.Int.{ints}
 use Rattle.std.proofs.lemmas.List.Sorted.{IsPermutation-refl}
 use Rattle.td_algebra.proofs.Entries.{ascending_distinct}
-use Rattle.td_catalog.specs.Database.{Database}
-use Rattle.td_check.specs.OperatorTypes.{are_types_of}
-use Rattle.td_check.specs.Scopes.{Scope}
+use Rattle.td_catalog.specs.model.Database.{Database}
+use Rattle.td_check.specs.model.OperatorTypes.{are_types_of}
+use Rattle.td_check.specs.model.Scopes.{Scope}
 use Rattle.td_tree.specs.declared.cause.Cause.TheVariants as causes
-use Rattle.td_tree.specs.Outcomes.{Outcome, Valued, gathered, value_if, with_both, with_value}
-use Rattle.td_tree.specs.Trees as trees
-use Rattle.td_types.specs.TypeLists.{AreDeclared, DeclaredType, declared_at}
-use Rattle.td_types.specs.Types.{Attribute, Attrs, Type', attr, no_attrs, unpack}
+use Rattle.td_tree.specs.model.Outcomes.{Outcome, Valued, gathered, value_if, with_both, with_value}
+use Rattle.td_tree.specs.model.Trees as trees
+use Rattle.td_types.specs.model.TypeLists.{AreDeclared, DeclaredType, declared_at}
+use Rattle.td_types.specs.model.Types.{Attribute, Attrs, Type', attr, no_attrs, unpack}
 use Rattle.td_types.proofs.DeclaredTypes.{stands_in}
 use Rattle.td_types.proofs.DistinctNames.{name_cmp}
 use Rattle.td_types.proofs.HeadingLaws.{same_name-itself}
 use Rattle.td_types.proofs.Meanings.{pack_unpack}
 use Rattle.td_types.proofs.OutcomeLaws.{value_of_test, value_of_with}
 use Rattle.td_value.proofs.Packed.{pack_unpack_fields, pack_unpack_rows}
-use Rattle.td_value.specs.KnownValues.{AreOfTypes, HasHeading, HasType, HaveHeading}
-use Rattle.td_value.specs.LiteralTrees.{field_trees, literal_tree, part_trees, row_trees}
-use Rattle.td_value.specs.Sets.{set_of}
-use Rattle.td_value.specs.ValueOrder.{tuple_order_same, tuple_order_total}
-use Rattle.td_value.specs.Values.{Val, boolean, integer, char, is_in_range, user, tuple, relation, AreFields, AreRows, AreValues, Fields, no_fields, field, IsAscendingBody, IsInRange, Parts, no_parts, part, Rows, no_rows, row, Tuple, pack_fields, pack_parts, pack_rows, relation_of, selected_value, tuple_cmp, tuple_names, tuple_of, unpack_fields, unpack_rows}
-use Rattle.td_value.specs.Values as values
-use Rattle.td_value.specs.code.Views.{user_view}
+use Rattle.td_value.specs.model.KnownValues.{AreOfTypes, HasHeading, HasType, HaveHeading}
+use Rattle.td_value.specs.laws.LiteralTrees.{field_trees, literal_tree, part_trees, row_trees}
+use Rattle.td_value.specs.model.Sets.{set_of}
+use Rattle.td_value.specs.code.ValueOrder.{tuple_order_same, tuple_order_total}
+use Rattle.td_value.specs.model.Values.{Val, boolean, integer, char, is_in_range, user, tuple, relation, AreFields, AreRows, AreValues, Fields, no_fields, field, IsAscendingBody, IsInRange, Parts, no_parts, part, Rows, no_rows, row, Tuple, pack_fields, pack_parts, pack_rows, relation_of, selected_value, tuple_cmp, tuple_names, tuple_of, unpack_fields, unpack_rows, user_view}
+use Rattle.td_value.specs.model.Values as values
 use Rattle.td_value.proofs.Maps.{sorted_is_tuple_of}
 use Rattle.td_value.proofs.SetLaws.{is_set_of}
-use Rattle.td_eval.specs.DatabaseWorlds.{constraint_value, selector_value, selectors_of, types_alone, world_of}
-use Rattle.td_eval.specs.LiteralValues.{EachInFields, EachInParts, EachInRows, EachUserValue, LiteralsHaveTheirValues, MeetConstraint, Selects, SelectorsGiveWhatMeets, StoredLiteralsHaveTheirValues}
-use Rattle.td_eval.specs.OperatorValues.{components_of, element_of, headed_value, of_relation, tuple_from}
-use Rattle.td_eval.specs.TreeValues.{argument_values, entry_values, value_of}
-use Rattle.td_eval.specs.Worlds.{World, selector_outcome}
+use Rattle.td_eval.specs.model.DatabaseWorlds.{constraint_value, selector_value, selectors_of, types_alone, world_of}
+use Rattle.td_eval.specs.model.MetConstraints.{EachInFields, EachInParts, EachInRows, EachUserValue, MeetConstraint}
+use Rattle.td_eval.specs.laws.LiteralValues.{LiteralsHaveTheirValues, Selects, SelectorsGiveWhatMeets, StoredLiteralsHaveTheirValues}
+use Rattle.td_eval.specs.model.OperatorValues.{components_of, element_of, headed_value, of_relation, tuple_from}
+use Rattle.td_eval.specs.model.TreeValues.{argument_values, entry_values, value_of}
+use Rattle.td_eval.specs.model.Worlds.{World, selector_outcome}
 use Rattle.td_eval.proofs.law_lemmas.LaterTypes.{selected_by}
 use Rattle.td_eval.proofs.law_lemmas.LiteralTypes.{heading_means}
 use Rattle.td_eval.proofs.law_lemmas.MentionedTypes.{chosen}

@@ -3,30 +3,30 @@ use Rattle.std.proofs.Common.{◌≡◌, ◌∙◌, ◌++◌, ℕ, Bool, true, f
 use Rattle.std.specs.List.{AllByRecursion}
 use Rattle.std.specs.Prelude.{IsTrue, is_some}
 use Rattle.td_algebra.proofs.Lists.{contains_none}
-use Rattle.td_catalog.specs.Database.{BaseRelvar, Database, VirtualRelvar, base_named, database_scope, known_base, known_virtual, virtual_named}
-use Rattle.td_catalog.specs.TypedDatabases.{IsTyped}
-use Rattle.td_catalog.specs.WrittenDefinitions.{DefinitionsAreWritten}
-use Rattle.td_check.specs.Mentions.{relvars_in}
-use Rattle.td_check.specs.Scopes.{KnownRelvar, Scope, known_relvar}
-use Rattle.td_check.specs.StaticLaws.{AgreeAt, AgreeOn, UsersAllIn}
-use Rattle.td_check.specs.StaticTypes.{type_of}
+use Rattle.td_catalog.specs.model.Database.{BaseRelvar, Database, VirtualRelvar, base_named, database_scope, known_base, known_virtual, virtual_named}
+use Rattle.td_catalog.specs.model.TypedDatabases.{IsTyped}
+use Rattle.td_catalog.specs.model.WrittenDefinitions.{DefinitionsAreWritten}
+use Rattle.td_check.specs.model.Mentions.{relvars_in}
+use Rattle.td_check.specs.model.Scopes.{KnownRelvar, Scope, known_relvar}
+use Rattle.td_check.specs.laws.StaticLaws.{AgreeAt, AgreeOn, UsersAllIn}
+use Rattle.td_check.specs.model.StaticTypes.{type_of}
 use Rattle.td_check.proofs.StaticLaws.{depends, mentions_are_known, more_changes_nothing}
-use Rattle.td_tree.specs.Outcomes.{Valued}
-use Rattle.td_types.specs.TypeLists.{declared_at}
-use Rattle.td_types.specs.Types.{Type', pack, same_name}
-use Rattle.td_types.specs.Types as types
-use Rattle.td_eval.specs.DatabaseWorlds.{selectors_of, world_of}
-use Rattle.td_eval.specs.TreeValues.{value_of}
-use Rattle.td_eval.specs.ValueLaws.{AgreeOnRelvars, AgreeOnTypes, HasTheSame, IsChecked, SelectsTheSame, ValuesDependOnEntries}
-use Rattle.td_eval.specs.Worlds.{World, with_tuples}
+use Rattle.td_tree.specs.model.Outcomes.{Valued}
+use Rattle.td_types.specs.model.TypeLists.{declared_at}
+use Rattle.td_types.specs.model.Types.{Type', pack, same_name}
+use Rattle.td_types.specs.model.Types as types
+use Rattle.td_eval.specs.model.DatabaseWorlds.{selectors_of, world_of}
+use Rattle.td_eval.specs.model.TreeValues.{value_of}
+use Rattle.td_eval.specs.laws.ValueLaws.{AgreeOnRelvars, AgreeOnTypes, HasTheSame, IsChecked, SelectsTheSame, ValuesDependOnEntries}
+use Rattle.td_eval.specs.model.Worlds.{World, with_tuples}
 use Rattle.td_eval.proofs.law_lemmas.KnownRelvars.{NamedAt, front_has_more, fronted, known_as_base, known_as_virtual, known_in_more, named, named_at, named_behind, never_none, no_base, of_all, one_more_scope, relvar_behind, some_of, some_one, stays_behind, unknown_parts, virtual_at}
 use Rattle.td_eval.proofs.law_lemmas.LaterTypes.{selected_by}
 use Rattle.td_eval.proofs.law_lemmas.MentionedTypes.{all_alike}
 use Rattle.td_eval.proofs.law_lemmas.MentionedValues.{values_depend_on_mentions}
 use Rattle.td_eval.proofs.law_lemmas.TypedDatabases.{all_at, database_keeps, fronts_keep}
 use Rattle.td_eval.proofs.code_lemmas.WorldParts.{base_value, virtual_name, world_scope, world_selectors}
-use Rattle.td_tree.specs.WrittenTrees.{IsWritten}
-use Rattle.td_value.specs.Values.{relation_value}
+use Rattle.td_tree.specs.model.WrittenTrees.{IsWritten}
+use Rattle.td_value.specs.model.Values.{relation_value}
 
 module _ (among seen : List ℕ → Bool) (first second : Database) (is_typed : IsTyped first) (other : IsTyped second)
     (agree_types : AgreeOnTypes among first.types second.types)

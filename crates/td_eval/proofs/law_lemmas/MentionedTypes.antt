@@ -4,34 +4,34 @@ use Rattle.std.specs.Cmp.Lexicographic.{same_text}
 use Rattle.std.specs.List.{AllByRecursion}
 use Rattle.std.specs.Prelude.{IsTrue, if◌then◌else◌, is_some}
 use Rattle.std.proofs.lemmas.List.Sums.{fold-append}
-use Rattle.td_catalog.specs.TypedDatabases.{EachAfter, IsConstrained}
-use Rattle.td_check.specs.Mentions.{types_in}
-use Rattle.td_check.specs.OperatorTypes.{if_type}
-use Rattle.td_check.specs.Scopes.{alone_with, scope_of}
-use Rattle.td_check.specs.StatementTypes.{constraint_fits}
-use Rattle.td_check.specs.StaticLaws.{UsersAllIn}
-use Rattle.td_check.specs.StaticTypes.{type_of}
+use Rattle.td_catalog.specs.model.TypedDatabases.{EachAfter, IsConstrained}
+use Rattle.td_check.specs.model.Mentions.{types_in}
+use Rattle.td_check.specs.model.OperatorTypes.{if_type}
+use Rattle.td_check.specs.model.Scopes.{alone_with, scope_of}
+use Rattle.td_check.specs.model.StatementTypes.{constraint_fits}
+use Rattle.td_check.specs.laws.StaticLaws.{UsersAllIn}
+use Rattle.td_check.specs.model.StaticTypes.{type_of}
 use Rattle.td_check.proofs.AgreementLaws.{only_one}
 use Rattle.td_check.proofs.OperatorLaws.{Fits, folded}
 use Rattle.td_check.proofs.StaticLaws.{mentions_are_known}
 use Rattle.td_check.proofs.UserTypeLaws.{users_closed}
-use Rattle.td_tree.specs.Outcomes.{Outcome, Valued, with_value}
-use Rattle.td_tree.specs.Trees.{Tree}
-use Rattle.td_types.specs.Headings.{heading_from}
-use Rattle.td_types.specs.TypeLists.{AreDeclared, DeclaredType, declared_at, is_declared}
-use Rattle.td_types.specs.Types.{Attribute, Heading, pack, same_name}
-use Rattle.td_types.specs.Types as types
+use Rattle.td_tree.specs.model.Outcomes.{Outcome, Valued, with_value}
+use Rattle.td_tree.specs.model.Trees.{Tree}
+use Rattle.td_types.specs.model.Headings.{heading_from}
+use Rattle.td_types.specs.model.TypeLists.{AreDeclared, DeclaredType, declared_at, is_declared}
+use Rattle.td_types.specs.model.Types.{Attribute, Heading, pack, same_name}
+use Rattle.td_types.specs.model.Types as types
 use Rattle.td_types.proofs.DeclaredTypes.{declared_at-later, stands_in}
 use Rattle.td_types.proofs.KnownTypes.{declared_more}
 use Rattle.td_types.proofs.OutcomeLaws.{value_of_with}
 use Rattle.td_types.proofs.Ranks.{known_components}
-use Rattle.td_value.specs.KnownValues.{AreOfTypes}
-use Rattle.td_value.specs.Values.{Val, Parts, no_parts, part, heading_of, pack_parts}
+use Rattle.td_value.specs.model.KnownValues.{AreOfTypes}
+use Rattle.td_value.specs.model.Values.{Val, Parts, no_parts, part, heading_of, pack_parts}
 use Rattle.td_value.proofs.KnownValues.{kept}
-use Rattle.td_eval.specs.DatabaseWorlds.{Selectors, selector_value, selectors_of, types_alone, with_selector, world_of_types}
-use Rattle.td_eval.specs.ValueLaws.{AgreeOnTypes, SelectsTheSame}
-use Rattle.td_eval.specs.ValueTypes.{AreComponentsOf}
-use Rattle.td_eval.specs.Worlds.{World, selector_outcome, with_tuples}
+use Rattle.td_eval.specs.model.DatabaseWorlds.{Selectors, selector_value, selectors_of, types_alone, with_selector, world_of_types}
+use Rattle.td_eval.specs.laws.ValueLaws.{AgreeOnTypes, SelectsTheSame}
+use Rattle.td_eval.specs.laws.ValueTypes.{AreComponentsOf}
+use Rattle.td_eval.specs.model.Worlds.{World, selector_outcome, with_tuples}
 use Rattle.td_eval.proofs.law_lemmas.LaterTypes.{AreTypedTypes, IsValuedAlike, SelectThose, alike_in_more, all_select, first_typed, parts_shrunk, selector_same, stays, types_keep, types_more}
 use Rattle.td_eval.proofs.law_lemmas.MentionedValues.{values_depend_on_mentions}
 use Rattle.td_eval.proofs.law_lemmas.TypedDatabases.{some_same}

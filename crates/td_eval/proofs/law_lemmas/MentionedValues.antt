@@ -4,34 +4,34 @@ use Rattle.std.proofs.lemmas.List.{append_assoc}
 use Rattle.std.specs.List.{AllByRecursion}
 use Rattle.std.specs.Prelude.{if◌then◌else◌, is_some, IsTrue}
 use Rattle.std.proofs.lemmas.List.Elements.{Contains-append_left, Contains-append_right}
-use Rattle.td_check.specs.Mentions.{behind_item, in_tuples, mentioned_by_name, relvars_in, relvars_in_all, relvars_in_items, relvars_in_named, relvars_where_bound, types_in, types_in_all, types_in_items, types_in_named, types_named_in}
-use Rattle.td_check.specs.OperatorTypes.{count_item, aggregate_item, aggregate_type, are_types_of, choice_type, comparison_type, component_type, extension_type, extracted_type, headed_type, known_or, listed_type, measure_type, misfit, operator_type, over_relation, postfix_type, prefix_type, selector_type, setting_type, tuple_type, restriction_type}
-use Rattle.td_check.specs.Scopes.{KnownRelvar, Scope, bound_to, entered_with, innermost, known_relvar}
-use Rattle.td_check.specs.StaticLaws.{AgreeOn, HasMore, UsersAllIn, UsersIn}
-use Rattle.td_check.specs.StaticTypes.{items_of, named_types, both_types, type_of, type_where_bound, types_of, with_items}
+use Rattle.td_check.specs.model.Mentions.{behind_item, in_tuples, mentioned_by_name, relvars_in, relvars_in_all, relvars_in_items, relvars_in_named, relvars_where_bound, types_in, types_in_all, types_in_items, types_in_named, types_named_in}
+use Rattle.td_check.specs.model.OperatorTypes.{count_item, aggregate_item, aggregate_type, are_types_of, choice_type, comparison_type, component_type, extension_type, extracted_type, headed_type, known_or, listed_type, measure_type, misfit, operator_type, over_relation, postfix_type, prefix_type, selector_type, setting_type, tuple_type, restriction_type}
+use Rattle.td_check.specs.model.Scopes.{KnownRelvar, Scope, bound_to, entered_with, innermost, known_relvar}
+use Rattle.td_check.specs.laws.StaticLaws.{AgreeOn, HasMore, UsersAllIn, UsersIn}
+use Rattle.td_check.specs.model.StaticTypes.{items_of, named_types, both_types, type_of, type_where_bound, types_of, with_items}
 use Rattle.td_check.proofs.AgreementLaws.{agree_entered, heading_follows, one_is}
 use Rattle.td_check.proofs.CarriedLaws.{Each}
 use Rattle.td_check.proofs.MentionLaws.{carried, items_carried_in, named_carried}
 use Rattle.td_check.proofs.StaticLaws.{more_changes_no_parts}
 use Rattle.td_check.proofs.SummaryLaws.{HeadingItems, Items}
 use Rattle.td_tree.specs.declared.cause.Cause.TheVariants as causes
-use Rattle.td_tree.specs.Outcomes.{Outcome, Valued, Refused, value_if, with_both, with_value}
-use Rattle.td_tree.specs.Trees.{AttributeTrees, Tree, literal, name, parentheses, prefix, extract, restriction, binary, compare, postfix, select, component, measure, aggregate, relation, headed_relation, tuple, extend, extend_setting, summarize_per, summarize_by, choice, binding, Trees, none, more, NamedTrees, none_named, more_named, Summaries, no_summaries, counted, summed, project}
-use Rattle.td_types.specs.Headings.{has_name, made_heading}
-use Rattle.td_types.specs.TypeLists.{DeclaredType, attributes_meant, declared_at, heading_meant}
-use Rattle.td_types.specs.Types.{Type', Attribute, Attrs, Heading, pack, unpack}
-use Rattle.td_types.specs.Types as types
+use Rattle.td_tree.specs.model.Outcomes.{Outcome, Valued, Refused, value_if, with_both, with_value}
+use Rattle.td_tree.specs.model.Trees.{AttributeTrees, Tree, literal, name, parentheses, prefix, extract, restriction, binary, compare, postfix, select, component, measure, aggregate, relation, headed_relation, tuple, extend, extend_setting, summarize_per, summarize_by, choice, binding, Trees, none, more, NamedTrees, none_named, more_named, Summaries, no_summaries, counted, summed, project}
+use Rattle.td_types.specs.model.Headings.{has_name, made_heading}
+use Rattle.td_types.specs.model.TypeLists.{DeclaredType, attributes_meant, declared_at, heading_meant}
+use Rattle.td_types.specs.model.Types.{Type', Attribute, Attrs, Heading, pack, unpack}
+use Rattle.td_types.specs.model.Types as types
 use Rattle.td_types.proofs.KnownTypes.{declared_more}
 use Rattle.td_types.proofs.Meanings.{attributes_later, pack_unpack}
 use Rattle.td_types.proofs.OutcomeLaws.{value_of_test, value_of_with, values_of_both}
-use Rattle.td_value.specs.Values.{Val, boolean, integer, char, relation_value, user, Relation, Tuple, heading_of}
-use Rattle.td_value.specs.Values as values
-use Rattle.td_eval.specs.AggregateValues.{aggregated_value, asked_of, summarized_value, summary_attributes, summary_value}
-use Rattle.td_eval.specs.OperatorValues.{comparison_value, component_value, extended_by_settings, extended_value, extracted_value, headed_value, listed_value, measure_value, on_relation, on_truth, operator_value, postfix_value, prefix_value, restricted_value, tuple_from}
-use Rattle.td_eval.specs.TreeValues.{argument_values, entry_values, items_in_tuples, value_of, value_where_bound, values_in_tuples}
-use Rattle.td_eval.specs.ValueLaws.{HasTheSame, SelectsTheSame, ValuesDependOnMentions}
-use Rattle.td_eval.specs.ValueTypes.{AreComponentsOf, IsOfType, IsTypedTuple, KeepsScope, KeepsType}
-use Rattle.td_eval.specs.Worlds.{World, innermost_value, known_outcome, name_value, selector_outcome, with_tuples}
+use Rattle.td_value.specs.model.Values.{Val, boolean, integer, char, relation_value, user, Relation, Tuple, heading_of}
+use Rattle.td_value.specs.model.Values as values
+use Rattle.td_eval.specs.model.AggregateValues.{aggregated_value, asked_of, summarized_value, summary_attributes, summary_value}
+use Rattle.td_eval.specs.model.OperatorValues.{comparison_value, component_value, extended_by_settings, extended_value, extracted_value, headed_value, listed_value, measure_value, on_relation, on_truth, operator_value, postfix_value, prefix_value, restricted_value, tuple_from}
+use Rattle.td_eval.specs.model.TreeValues.{argument_values, entry_values, items_in_tuples, value_of, value_where_bound, values_in_tuples}
+use Rattle.td_eval.specs.laws.ValueLaws.{HasTheSame, SelectsTheSame, ValuesDependOnMentions}
+use Rattle.td_eval.specs.laws.ValueTypes.{AreComponentsOf, IsOfType, IsTypedTuple, KeepsScope, KeepsType}
+use Rattle.td_eval.specs.model.Worlds.{World, innermost_value, known_outcome, name_value, selector_outcome, with_tuples}
 use Rattle.td_eval.proofs.law_lemmas.AlikeOutcomes.{both_alike, over_same, with_alike}
 use Rattle.td_eval.proofs.law_lemmas.AlikeRows.{AreAlikeIn, aggregated_alike, extended_alike, restricted_alike, settings_alike}
 use Rattle.td_eval.proofs.law_lemmas.AlikeSummaries.{SummandsAlikeIn, summarized_alike}
@@ -40,7 +40,7 @@ use Rattle.td_eval.proofs.law_lemmas.TypedArguments.{arguments_typed, known_is}
 use Rattle.td_eval.proofs.code_lemmas.TypedRows.{one_typed, rows_typed}
 use Rattle.td_value.proofs.KnownValues.{has_its_type}
 use Rattle.td_eval.proofs.code_lemmas.TypedTrees.{innermost_typed, keeps, typed_behind}
-use Rattle.td_tree.specs.WrittenTrees.{GiveNames, GivesNames, HasTexts, HaveTexts, ItemsGiveNames, ItemsHaveTexts, PartsGiveNames, PartsHaveTexts}
+use Rattle.td_tree.specs.model.WrittenTrees.{GiveNames, GivesNames, HasTexts, HaveTexts, ItemsGiveNames, ItemsHaveTexts, PartsGiveNames, PartsHaveTexts}
 
 -- a scope where attributes of these headings are in hand
 abbrev among_headings : Scope → List Heading → Scope

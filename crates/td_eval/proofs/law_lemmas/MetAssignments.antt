@@ -1,16 +1,16 @@
 -- The relations that assignments make of relations in which each user value has a property: each user value in them has it.
 use Rattle.std.proofs.Common.{◌≡◌, ℕ, Bool, List, [], ◌∷◌, refl, subst}
 use Rattle.std.specs.List.{Contains}
-use Rattle.td_algebra.specs.Operators.{restriction, union}
+use Rattle.td_algebra.specs.model.Operators.{restriction, union}
 use Rattle.td_check.proofs.OperatorLaws.{Gives}
 use Rattle.td_eval.proofs.law_lemmas.MetOperators.{GivesMet, HasOnly, PartsMeet, relation_gives, set_value_meets}
 use Rattle.td_eval.proofs.law_lemmas.MetRelations.{RelationMeets, met_relation, relation_meets, restriction_meets, union_meets}
-use Rattle.td_eval.specs.LiteralValues.{MeetConstraint}
-use Rattle.td_eval.specs.MetConstraints.{AssignedRelationsMeetConstraints, EachInValues}
-use Rattle.td_eval.specs.OperatorValues.{on_relation, set_value}
-use Rattle.td_tree.specs.Outcomes.{Outcome, Valued, Refused}
-use Rattle.td_types.specs.Types.{Attribute}
-use Rattle.td_value.specs.Values.{Val, Parts, Relation, Tuple, relation_value}
+use Rattle.td_eval.specs.model.MetConstraints.{MeetConstraint}
+use Rattle.td_eval.specs.laws.MetConstraintLaws.{AssignedRelationsMeetConstraints, EachInValues}
+use Rattle.td_eval.specs.model.OperatorValues.{on_relation, set_value}
+use Rattle.td_tree.specs.model.Outcomes.{Outcome, Valued, Refused}
+use Rattle.td_types.specs.model.Types.{Attribute}
+use Rattle.td_value.specs.model.Values.{Val, Parts, Relation, Tuple, relation_value}
 
 module _ (P : List ℕ → Parts → Type 0) where
   -- what has such a value, if it has one

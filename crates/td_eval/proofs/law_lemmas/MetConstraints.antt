@@ -1,18 +1,19 @@
 -- What selectors give meets the constraints of its types, and still does where more types stand behind.
 use Rattle.std.proofs.Common.{◌≡◌, ◌∙◌, ℕ, List, Option, Some, None, ap, refl, subst, sym}
-use Rattle.td_tree.specs.Outcomes.{Valued}
-use Rattle.td_types.specs.TypeLists.{AreDeclared, DeclaredType, declared_at}
-use Rattle.td_types.specs.Types.{Attrs}
+use Rattle.td_tree.specs.model.Outcomes.{Valued}
+use Rattle.td_types.specs.model.TypeLists.{AreDeclared, DeclaredType, declared_at}
+use Rattle.td_types.specs.model.Types.{Attrs}
 use Rattle.td_types.proofs.DeclaredTypes.{stands_in}
-use Rattle.td_value.specs.KnownValues.{AreOfTypes, HasType}
-use Rattle.td_value.specs.Values.{Val, boolean, integer, char, user, tuple, relation, AreFields, AreRows, AreValues, Fields, no_fields, field, Parts, no_parts, part, Rows, no_rows, row, pack_parts}
-use Rattle.td_value.specs.Values as values
+use Rattle.td_value.specs.model.KnownValues.{AreOfTypes, HasType}
+use Rattle.td_value.specs.model.Values.{Val, boolean, integer, char, user, tuple, relation, AreFields, AreRows, AreValues, Fields, no_fields, field, Parts, no_parts, part, Rows, no_rows, row, pack_parts}
+use Rattle.td_value.specs.model.Values as values
 use Rattle.td_value.proofs.KnownValues.{kept}
-use Rattle.td_eval.specs.DatabaseWorlds.{constraint_value, selector_value, selectors_of, types_alone, world_of, world_of_types}
-use Rattle.td_eval.specs.LiteralValues.{EachInFields, EachInParts, EachInRows, EachUserValue, LaterTypesKeepWhatMeets, MeetConstraint, Selects, WhatSelectorsGiveMeets}
-use Rattle.td_eval.specs.OperatorValues.{components_of}
-use Rattle.td_eval.specs.ValueTypes.{AreComponentsOf}
-use Rattle.td_eval.specs.Worlds.{selector_outcome}
+use Rattle.td_eval.specs.model.DatabaseWorlds.{constraint_value, selector_value, selectors_of, types_alone, world_of, world_of_types}
+use Rattle.td_eval.specs.model.MetConstraints.{EachInFields, EachInParts, EachInRows, EachUserValue, MeetConstraint}
+use Rattle.td_eval.specs.laws.LiteralValues.{LaterTypesKeepWhatMeets, Selects, WhatSelectorsGiveMeets}
+use Rattle.td_eval.specs.model.OperatorValues.{components_of}
+use Rattle.td_eval.specs.laws.ValueTypes.{AreComponentsOf}
+use Rattle.td_eval.specs.model.Worlds.{selector_outcome}
 use Rattle.td_eval.proofs.law_lemmas.LaterEntries.{selectors_stay}
 use Rattle.td_eval.proofs.law_lemmas.LaterTypes.{AreTypedTypes}
 use Rattle.td_eval.proofs.law_lemmas.LiteralValues.{each, met_of_given, own_selector, packed_components, selector_gives, selectors_give_what_meets, selects}

@@ -3,16 +3,16 @@ use Rattle.std.proofs.Common.{ℕ, ℤ, pos, Bool, true, false, List, [], ◌∷
 use Rattle.std.specs.Prelude.{◌+ℤ◌, ◌-ℤ◌, ◌*ℤ◌, if◌then◌else◌, int_div, neg_ℤ}
 use Rattle.std.specs.List.{AllByRecursion, Contains, zip}
 use Rattle.td_algebra.proofs.Lists.{contains_first}
-use Rattle.td_algebra.specs.Operators.{composition, difference, extended_relation, intersection, is_disjoint, is_subset, join, product, projected_relation, renamed_relation, restriction, semidifference, semijoin, union}
+use Rattle.td_algebra.specs.model.Operators.{composition, difference, extended_relation, intersection, is_disjoint, is_subset, join, product, projected_relation, renamed_relation, restriction, semidifference, semijoin, union}
 use Rattle.td_check.proofs.OperatorLaws.{Gives, gives_after, gives_all, gives_if, gives_known, gives_with}
-use Rattle.td_check.specs.OperatorTypes.{attribute_type, equality_type, extended_by, known_or, over_relation, over_tuple, renaming_pairs, same_heading, set_heading}
+use Rattle.td_check.specs.model.OperatorTypes.{attribute_type, equality_type, extended_by, known_or, over_relation, over_tuple, renaming_pairs, same_heading, set_heading}
 use Rattle.td_eval.proofs.code_lemmas.KeepsGathered.{member_from_all}
 use Rattle.td_eval.proofs.code_lemmas.KeepsRelations.{all_made}
 use Rattle.td_eval.proofs.law_lemmas.MetRelations.{EntryMeets, RelationMeets, TupleMeets, ValuesMeet, closure_meets, composition_meets, extended_meets, fields_meet, grouped_meets, join_meets, product_meets, projected_meets, relation_meets, renamed_meets, restriction_meets, rows_meet, set_attributes_meet, set_meets, union_meets, unnested_meets, unpacked_meet, value_meets, wrapped_meets}
-use Rattle.td_eval.specs.LiteralValues.{EachInParts, EachUserValue}
-use Rattle.td_eval.specs.OperatorValues.{additions_of, at_most, columns_values, comparison_value, component_value, components_of, disjoint_union, element_of, extended_by_settings, extended_value, extracted_value, headed_value, included_difference, is_true, is_zero, less_or_equal, less_than, listed_value, literal_value, measure_value, membership_value, nested_names, of_relation, of_truth, on_number, on_relation, on_relations, on_text, on_truth, on_tuple, only_tuple, operator_value, over_one_heading, postfix_value, prefix_value, projected_names, quotient, relation_where, restricted_value, set_value, signed_number, truth_value, tuple_from, value_or_false}
-use Rattle.td_group.specs.Closure.{closure}
-use Rattle.td_group.specs.Nesting.{grouped_relation, unnested_relation, wrapped_relation}
+use Rattle.td_eval.specs.model.MetConstraints.{EachInParts, EachUserValue}
+use Rattle.td_eval.specs.model.OperatorValues.{additions_of, at_most, columns_values, comparison_value, component_value, components_of, disjoint_union, element_of, extended_by_settings, extended_value, extracted_value, headed_value, included_difference, is_true, is_zero, less_or_equal, less_than, listed_value, literal_value, measure_value, membership_value, nested_names, of_relation, of_truth, on_number, on_relation, on_relations, on_text, on_truth, on_tuple, only_tuple, operator_value, over_one_heading, postfix_value, prefix_value, projected_names, quotient, relation_where, restricted_value, set_value, signed_number, truth_value, tuple_from, value_or_false}
+use Rattle.td_group.specs.model.Closure.{closure}
+use Rattle.td_group.specs.model.Nesting.{grouped_relation, unnested_relation, wrapped_relation}
 use Rattle.td_tree.specs.declared.cause.Cause.TheVariants as causes
 use Rattle.td_tree.specs.declared.operator.Comparison.{Comparison}
 use Rattle.td_tree.specs.declared.operator.Comparison.TheVariants as comparisons
@@ -22,14 +22,13 @@ use Rattle.td_tree.specs.declared.operator.Operator.{Operator}
 use Rattle.td_tree.specs.declared.operator.Operator.TheVariants as operators
 use Rattle.td_tree.specs.declared.operator.Prefix.{Prefix}
 use Rattle.td_tree.specs.declared.operator.Prefix.TheVariants as prefixes
-use Rattle.td_tree.specs.Outcomes.{Outcome, Valued, Refused, Only, gathered, value_if, with_value}
-use Rattle.td_tree.specs.Trees.{Literal, number, text, truth, table_dee, table_dum, Postfix, project, rename, group, ungroup, wrap, unwrap}
-use Rattle.td_types.specs.Headings.{are_distinct}
-use Rattle.td_types.specs.TypeLists.{DeclaredType, declared_at}
-use Rattle.td_types.specs.Types.{Attribute, Heading, Type', attribute_names, unpack}
-use Rattle.td_types.specs.Types as types
-use Rattle.td_value.specs.Values.{Val, boolean, integer, char, of_number, relation_value, tuple_value, user, tuple, relation, Parts, no_parts, part, Relation, Tuple, heading_of, made_tuple, relation_of, tuple_names, tuple_of, type_of, unpack_fields, unpack_rows, value_at}
-use Rattle.td_value.specs.code.Views.{relation_view}
+use Rattle.td_tree.specs.model.Outcomes.{Outcome, Valued, Refused, Only, gathered, value_if, with_value}
+use Rattle.td_tree.specs.model.Trees.{Literal, number, text, truth, table_dee, table_dum, Postfix, project, rename, group, ungroup, wrap, unwrap}
+use Rattle.td_types.specs.model.Headings.{are_distinct}
+use Rattle.td_types.specs.model.TypeLists.{DeclaredType, declared_at}
+use Rattle.td_types.specs.model.Types.{Attribute, Heading, Type', attribute_names, unpack}
+use Rattle.td_types.specs.model.Types as types
+use Rattle.td_value.specs.model.Values.{Val, boolean, integer, char, of_number, relation_value, tuple_value, user, tuple, relation, Parts, no_parts, part, Relation, Tuple, heading_of, made_tuple, relation_of, tuple_names, tuple_of, type_of, unpack_fields, unpack_rows, value_at, relation_view}
 
 module _ (P : List ℕ → Parts → Type 0) where
   abbrev pub HasOnly : Val → Type 0

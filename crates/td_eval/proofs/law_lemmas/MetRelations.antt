@@ -5,18 +5,17 @@ use Rattle.std.specs.Prelude.{if◌then◌else◌, not}
 use Rattle.std.specs.List.{AllByRecursion, Contains, flat_map}
 use Rattle.std.proofs.lemmas.List.Elements.{Contains-append_cases}
 use Rattle.td_algebra.proofs.Lists.{contains_cases, contains_filter, contains_first, contains_flat_map, contains_later, contains_map, contains_none}
-use Rattle.td_algebra.specs.Columns.{new_attribute}
-use Rattle.td_algebra.specs.Operators.{Addition, added_attributes, added_values, are_partners, composition, extended_relation, extended_tuple, join, own_names, product, projected_relation, renamed_relation, renamed_tuple, restriction, set_relation, set_tuple, union, united_tuple}
+use Rattle.td_algebra.specs.model.Operators.{Addition, added_attributes, added_values, are_partners, composition, extended_relation, extended_tuple, join, own_names, product, projected_relation, renamed_relation, renamed_tuple, restriction, set_relation, set_tuple, union, united_tuple, new_attribute}
 use Rattle.td_eval.proofs.code_lemmas.KeepsRelations.{all_filtered, all_joined, all_made}
-use Rattle.td_eval.specs.LiteralValues.{EachInFields, EachInRows, EachUserValue}
-use Rattle.td_group.specs.Closure.{chained_tuple, chained_tuples, closure, is_followed_by}
-use Rattle.td_group.specs.Nesting.{group_of, grouped_relation, other_names, rest_names, tuples_inside, unnested_relation, unnested_tuples, wrapped_relation, wrapped_tuple}
-use Rattle.td_types.specs.Headings.{has_attribute, has_name, new_name, projection}
-use Rattle.td_types.specs.Types.{Heading, pack, same_name}
-use Rattle.td_types.specs.Types as types
+use Rattle.td_eval.specs.model.MetConstraints.{EachInFields, EachInRows, EachUserValue}
+use Rattle.td_group.specs.model.Closure.{chained_tuple, chained_tuples, closure, is_followed_by}
+use Rattle.td_group.specs.model.Nesting.{group_of, grouped_relation, names_without, rest_names, tuples_inside, unnested_relation, unnested_tuples, wrapped_relation, wrapped_tuple}
+use Rattle.td_types.specs.model.Headings.{has_attribute, has_name, new_name, projection}
+use Rattle.td_types.specs.model.Types.{Heading, pack, same_name}
+use Rattle.td_types.specs.model.Types as types
 use Rattle.td_value.proofs.Members.{set_members}
-use Rattle.td_value.specs.Agreement.{agree_on}
-use Rattle.td_value.specs.Values.{Val, relation_value, tuple, relation, Parts, Fields, no_fields, field, Rows, no_rows, row, Relation, Tuple, pack_fields, pack_rows, projected_tuple, relation_of, tuple_names, tuple_of, tuple_value, unpack_fields, unpack_rows, value_at}
+use Rattle.td_value.specs.model.Agreement.{agree_on}
+use Rattle.td_value.specs.model.Values.{Val, relation_value, tuple, relation, Parts, Fields, no_fields, field, Rows, no_rows, row, Relation, Tuple, pack_fields, pack_rows, projected_tuple, relation_of, tuple_names, tuple_of, tuple_value, unpack_fields, unpack_rows, value_at}
 
 module _ (P : List ℕ → Parts → Type 0) where
   -- the user values in an entry, in a tuple and in the tuples of a relation have it
@@ -223,11 +222,11 @@ module _ (P : List ℕ → Parts → Type 0) where
       own : (y : Tuple) → Contains (flat_map (unnested_tuples name r) r.body) y → TupleMeets y
       own y c =
           let d = (contains_flat_map (unnested_tuples name r) r.body y).0 c in
-          let rest = projected_tuple (other_names name r) d.0 in
+          let rest = projected_tuple (names_without name r) d.0 in
           let e = (contains_map (λ x. tuple_of (rest ++ x)) (tuples_inside (value_at name d.0)) y).0 d.2 in
           subst TupleMeets e.2
           (all_made EntryMeets (rest ++ e.0)
-          (all_joined EntryMeets rest e.0 (part_meets (other_names name r) d.0 (m d.0 d.1)) (part_inside_meets name d.0 (m d.0 d.1) e.0 e.1)))
+          (all_joined EntryMeets rest e.0 (part_meets (names_without name r) d.0 (m d.0 d.1)) (part_inside_meets name d.0 (m d.0 d.1) e.0 e.1)))
 
   -- ---- TCLOSE
 

@@ -4,23 +4,23 @@ use Rattle.std.proofs.Common.{ℕ, pos, Bool, true, false, List, [], ◌∷◌, 
 use Rattle.std.specs.Prelude.{if◌then◌else◌}
 use Rattle.std.specs.List.{AllByRecursion, list_all}
 use Rattle.std.specs.Ordering.{is_lt}
-use Rattle.td_algebra.specs.Operators.{common_names}
+use Rattle.td_algebra.specs.model.Operators.{common_names}
 use Rattle.td_check.proofs.OperatorLaws.{gives_after, gives_all, gives_if, gives_with}
 use Rattle.td_eval.proofs.code_lemmas.KeepsGathered.{all_from_members}
 use Rattle.td_eval.proofs.law_lemmas.MetOperators.{GivesMet, HasOnly, PartsMeet, extended_value_meets, relations_give}
 use Rattle.td_eval.proofs.law_lemmas.MetRelations.{RelationMeets, TupleMeets, restriction_meets}
-use Rattle.td_eval.specs.AggregateValues.{Summand, aggregate_of, aggregated_value, group_values, group_with, summarized_value, summary_in, summary_value, takes}
-use Rattle.td_eval.specs.OperatorValues.{extended_value}
-use Rattle.td_group.specs.Aggregates.{aggregate, greater, greatest_value, least_value, less, sum_of}
+use Rattle.td_eval.specs.model.AggregateValues.{Summand, aggregate_of, aggregated_value, group_values, group_with, summarized_value, summary_in, summary_value, takes}
+use Rattle.td_eval.specs.model.OperatorValues.{extended_value}
+use Rattle.td_group.specs.model.Aggregates.{aggregate, greater, greatest_value, least_value, less, sum_of}
 use Rattle.td_group.specs.declared.aggregates.Agg.{Agg}
 use Rattle.td_group.specs.declared.aggregates.Agg.TheVariants as asked
-use Rattle.td_group.specs.Groups.{groups}
+use Rattle.td_group.specs.model.Groups.{groups}
 use Rattle.td_tree.specs.declared.cause.Cause.TheVariants as causes
-use Rattle.td_tree.specs.Outcomes.{Outcome, gathered, value_if}
-use Rattle.td_types.specs.Headings.{is_part}
-use Rattle.td_types.specs.Types.{Attribute, Heading}
-use Rattle.td_value.specs.Agreement.{agree_on}
-use Rattle.td_value.specs.Values.{Val, integer, Parts, Relation, Tuple, value_cmp}
+use Rattle.td_tree.specs.model.Outcomes.{Outcome, gathered, value_if}
+use Rattle.td_types.specs.model.Headings.{is_part}
+use Rattle.td_types.specs.model.Types.{Attribute, Heading}
+use Rattle.td_value.specs.model.Agreement.{agree_on}
+use Rattle.td_value.specs.model.Values.{Val, integer, Parts, Relation, Tuple, value_cmp}
 
 module _ (P : List ℕ → Parts → Type 0) where
   -- ---- aggregates

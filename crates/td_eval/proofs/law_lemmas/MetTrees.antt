@@ -4,22 +4,22 @@ use Rattle.std.proofs.Common.{◌≡◌, ℕ, Bool, true, false, None, Option, S
 use Rattle.std.specs.Prelude.{if◌then◌else◌, ⊤}
 use Rattle.std.specs.List.{AllByRecursion}
 use Rattle.td_check.proofs.OperatorLaws.{Gives, gives_both, gives_with}
-use Rattle.td_check.specs.Scopes.{entered_with}
-use Rattle.td_check.specs.StaticTypes.{named_types}
+use Rattle.td_check.specs.model.Scopes.{entered_with}
+use Rattle.td_check.specs.model.StaticTypes.{named_types}
 use Rattle.td_eval.proofs.law_lemmas.MetAssignments.{gives_met, met_given}
 use Rattle.td_eval.proofs.law_lemmas.MetOperators.{GivesMet, HasOnly, PartsMeet, comparison_meets, component_meets, extended_by_settings_meets, extended_value_meets, extracted_meets, headed_meets, listed_meets, literal_meets, measure_meets, operator_meets, postfix_meets, prefix_meets, relation_gives, restricted_meets, truth_meets, tuple_from_meets}
 use Rattle.td_eval.proofs.law_lemmas.MetRelations.{TupleMeets, entries_meet, met_relation, value_meets}
 use Rattle.td_eval.proofs.law_lemmas.MetSummaries.{ItemsMeet, aggregated_meets, summary_meets}
-use Rattle.td_eval.specs.AggregateValues.{aggregated_value, asked_of, summary_attributes, summary_value}
-use Rattle.td_eval.specs.MetConstraints.{EachInTuple, EachInValues, GivesOnly}
-use Rattle.td_eval.specs.OperatorValues.{comparison_value, component_value, extended_by_settings, extended_value, extracted_value, headed_value, listed_value, measure_value, on_relation, on_truth, operator_value, postfix_value, prefix_value, restricted_value, tuple_from}
-use Rattle.td_eval.specs.TreeValues.{argument_values, entry_values, items_in_tuples, value_of, value_where_bound, values_in_tuples}
-use Rattle.td_eval.specs.Worlds.{World, innermost_value, known_outcome, name_value, selector_outcome, with_tuples}
-use Rattle.td_tree.specs.Outcomes.{Outcome, Valued, Refused}
-use Rattle.td_tree.specs.Trees.{Tree, literal, name, parentheses, prefix, extract, restriction, binary, compare, postfix, select, component, measure, aggregate, relation, headed_relation, tuple, extend, extend_setting, summarize_per, summarize_by, choice, binding, Trees, none, more, NamedTrees, none_named, more_named, Summaries, no_summaries, counted, summed, project}
-use Rattle.td_types.specs.TypeLists.{heading_meant}
-use Rattle.td_types.specs.Types.{Heading}
-use Rattle.td_value.specs.Values.{Val, Parts, Relation, Tuple, relation_value, value_at}
+use Rattle.td_eval.specs.model.AggregateValues.{aggregated_value, asked_of, summary_attributes, summary_value}
+use Rattle.td_eval.specs.laws.MetConstraintLaws.{EachInTuple, EachInValues, GivesOnly}
+use Rattle.td_eval.specs.model.OperatorValues.{comparison_value, component_value, extended_by_settings, extended_value, extracted_value, headed_value, listed_value, measure_value, on_relation, on_truth, operator_value, postfix_value, prefix_value, restricted_value, tuple_from}
+use Rattle.td_eval.specs.model.TreeValues.{argument_values, entry_values, items_in_tuples, value_of, value_where_bound, values_in_tuples}
+use Rattle.td_eval.specs.model.Worlds.{World, innermost_value, known_outcome, name_value, selector_outcome, with_tuples}
+use Rattle.td_tree.specs.model.Outcomes.{Outcome, Valued, Refused}
+use Rattle.td_tree.specs.model.Trees.{Tree, literal, name, parentheses, prefix, extract, restriction, binary, compare, postfix, select, component, measure, aggregate, relation, headed_relation, tuple, extend, extend_setting, summarize_per, summarize_by, choice, binding, Trees, none, more, NamedTrees, none_named, more_named, Summaries, no_summaries, counted, summed, project}
+use Rattle.td_types.specs.model.TypeLists.{heading_meant}
+use Rattle.td_types.specs.model.Types.{Heading}
+use Rattle.td_value.specs.model.Values.{Val, Parts, Relation, Tuple, relation_value, value_at}
 
 module _ (P : List ℕ → Parts → Type 0) where
   -- ---- names

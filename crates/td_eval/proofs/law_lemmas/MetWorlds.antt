@@ -3,20 +3,20 @@ use Rattle.std.proofs.Common.{◌≡◌, ◌∙◌, ℕ, Bool, true, false, None
 use Rattle.std.specs.Option.{option_or}
 use Rattle.std.specs.Prelude.{if◌then◌else◌}
 use Rattle.std.specs.List.{AllByRecursion}
-use Rattle.td_catalog.specs.Database.{BaseRelvar, Database, VirtualRelvar, base_among}
-use Rattle.td_catalog.specs.TypedDatabases.{IsTyped}
+use Rattle.td_catalog.specs.model.Database.{BaseRelvar, Database, VirtualRelvar, base_among}
+use Rattle.td_catalog.specs.model.TypedDatabases.{IsTyped}
 use Rattle.td_eval.proofs.law_lemmas.LiteralValues.{selects}
 use Rattle.td_eval.proofs.law_lemmas.MetConstraints.{what_selectors_give_meets}
 use Rattle.td_eval.proofs.law_lemmas.MetOperators.{HasOnly}
 use Rattle.td_eval.proofs.law_lemmas.MetTrees.{values_have, values_in_parts}
-use Rattle.td_eval.specs.DatabaseWorlds.{with_other, with_virtual_value, world_of, world_of_bases}
-use Rattle.td_eval.specs.LiteralValues.{EachInParts, MeetConstraint}
-use Rattle.td_eval.specs.MetConstraints.{GivesOnly, ValuesMeetConstraints}
-use Rattle.td_eval.specs.TreeValues.{value_of}
-use Rattle.td_eval.specs.Worlds.{World, selector_outcome}
-use Rattle.td_tree.specs.Outcomes.{Outcome, Valued}
-use Rattle.td_types.specs.Types.{same_name}
-use Rattle.td_value.specs.Values.{Val, Parts, Relation, pack_parts, relation_value}
+use Rattle.td_eval.specs.model.DatabaseWorlds.{with_other, with_virtual_value, world_of, world_of_bases}
+use Rattle.td_eval.specs.model.MetConstraints.{EachInParts, MeetConstraint}
+use Rattle.td_eval.specs.laws.MetConstraintLaws.{GivesOnly, ValuesMeetConstraints}
+use Rattle.td_eval.specs.model.TreeValues.{value_of}
+use Rattle.td_eval.specs.model.Worlds.{World, selector_outcome}
+use Rattle.td_tree.specs.model.Outcomes.{Outcome, Valued}
+use Rattle.td_types.specs.model.Types.{same_name}
+use Rattle.td_value.specs.model.Values.{Val, Parts, Relation, pack_parts, relation_value}
 
 module _ (P : List ℕ → Parts → Type 0) where
   -- ---- one relvar more or another

@@ -1,18 +1,18 @@
 -- In a world that has more, an expression that has a type has the same value.
 use Rattle.std.proofs.Common.{◌≡◌, ◌∙◌, ◌++◌, ℕ, Bool, true, List, Some, ap, refl}
 use Rattle.std.specs.Prelude.{is_some, IsTrue}
-use Rattle.td_check.specs.Scopes.{KnownRelvar, Scope, known_relvar}
-use Rattle.td_check.specs.StaticLaws.{AgreeAt, AgreeOn, UsersAllIn, UsersIn}
+use Rattle.td_check.specs.model.Scopes.{KnownRelvar, Scope, known_relvar}
+use Rattle.td_check.specs.laws.StaticLaws.{AgreeAt, AgreeOn, UsersAllIn, UsersIn}
 use Rattle.td_check.proofs.StaticLaws.{mentions_are_known}
-use Rattle.td_tree.specs.Trees.{Tree}
-use Rattle.td_types.specs.TypeLists.{DeclaredType, declared_at}
-use Rattle.td_types.specs.Types.{Attrs, Type', attr, boolean, char, integer, no_attrs, pack, relation, tuple, user}
+use Rattle.td_tree.specs.model.Trees.{Tree}
+use Rattle.td_types.specs.model.TypeLists.{DeclaredType, declared_at}
+use Rattle.td_types.specs.model.Types.{Attrs, Type', attr, boolean, char, integer, no_attrs, pack, relation, tuple, user}
 use Rattle.td_types.proofs.KnownTypes.{declared_more}
-use Rattle.td_value.specs.Values.{Tuple}
-use Rattle.td_eval.specs.TreeValues.{value_of}
-use Rattle.td_eval.specs.ValueLaws.{IsChecked, SelectsTheSame}
-use Rattle.td_eval.specs.ValueTypes.{KeepsScope}
-use Rattle.td_eval.specs.Worlds.{World, with_tuples}
+use Rattle.td_value.specs.model.Values.{Tuple}
+use Rattle.td_eval.specs.model.TreeValues.{value_of}
+use Rattle.td_eval.specs.laws.ValueLaws.{IsChecked, SelectsTheSame}
+use Rattle.td_eval.specs.laws.ValueTypes.{KeepsScope}
+use Rattle.td_eval.specs.model.Worlds.{World, with_tuples}
 use Rattle.td_eval.proofs.law_lemmas.MentionedValues.{values_depend_on_mentions}
 
 -- every name

@@ -3,19 +3,19 @@ use Rattle.std.proofs.Common.{◌≡◌, ◌∙◌, ◌++◌, ℕ, Bool, true, f
 use Rattle.std.specs.Prelude.{◌&&◌, if◌then◌else◌, is_some, not}
 use Rattle.std.specs.Cmp.Lexicographic.{same_text}
 use Rattle.std.specs.List.{Contains, list_all}
-use Rattle.td_algebra.specs.Operators.{Addition, added_attributes, added_values, extended_relation, extended_tuple, set_relation, set_tuple}
+use Rattle.td_algebra.specs.model.Operators.{Addition, added_attributes, added_values, extended_relation, extended_tuple, set_relation, set_tuple}
 use Rattle.td_algebra.proofs.Entries.{no_value_outside}
 use Rattle.td_algebra.proofs.Members.{both_true, first_true, second_true}
 use Rattle.td_algebra.proofs.Relations.{member_headed}
 use Rattle.td_eval.proofs.law_lemmas.AlikeRows.{map_alike}
-use Rattle.td_eval.specs.OperatorValues.{additions_of, columns_values, of_relation, set_value}
-use Rattle.td_eval.specs.ValueLaws.{NewSettingsExtend}
+use Rattle.td_eval.specs.model.OperatorValues.{additions_of, columns_values, of_relation, set_value}
+use Rattle.td_eval.specs.laws.ValueLaws.{NewSettingsExtend}
 use Rattle.td_tree.specs.declared.cause.Cause.TheVariants as causes
-use Rattle.td_tree.specs.Outcomes.{Outcome, Valued, Refused, gathered, value_if, with_value}
-use Rattle.td_types.specs.Headings.{are_distinct, has_attribute, have_no_common, heading_union, outside, with_attribute}
-use Rattle.td_types.specs.Types.{Attribute, Heading, Type', attribute_names, same_name, type_at}
+use Rattle.td_tree.specs.model.Outcomes.{Outcome, Valued, Refused, gathered, value_if, with_value}
+use Rattle.td_types.specs.model.Headings.{are_distinct, has_attribute, have_no_common, heading_union, outside, with_attribute}
+use Rattle.td_types.specs.model.Types.{Attribute, Heading, Type', attribute_names, same_name, type_at}
 use Rattle.td_types.proofs.HeadingLaws.{IsAscending-filter, ascending_from_heading, type_at-outside, types_determine_heading}
-use Rattle.td_value.specs.Values.{Val, IsRelation, Relation, Tuple, relation_of, tuple_of, value_at}
+use Rattle.td_value.specs.model.Values.{Val, IsRelation, Relation, Tuple, relation_of, tuple_of, value_at}
 use Rattle.td_value.proofs.Agreement.{entries_of_values, names_ascend, value_at-filter}
 use Rattle.td_value.proofs.Kept.{IsTuple-filter}
 

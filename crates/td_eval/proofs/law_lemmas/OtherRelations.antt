@@ -1,16 +1,16 @@
 -- The world in which a base relvar has another relation of its heading.
 use Rattle.std.proofs.Common.{◌≡◌, ◌∙◌, ℕ, Bool, true, false, List, Some, ap, refl, subst, sym}
 use Rattle.std.specs.Cmp.Lexicographic.{same_text}
-use Rattle.td_catalog.specs.Database.{Database}
-use Rattle.td_catalog.specs.TypedDatabases.{AreTyped}
-use Rattle.td_check.specs.Scopes.{KnownRelvar, Scope, known_relvar}
-use Rattle.td_eval.specs.DatabaseWorlds.{with_other, world_of}
-use Rattle.td_eval.specs.ValueTypes.{KeepsType, OtherRelationsKeepScopes}
-use Rattle.td_tree.specs.Outcomes.{Outcome, Valued}
-use Rattle.td_types.specs.TypeLists.{AreKnown, DeclaredType}
-use Rattle.td_types.specs.Types.{pack, same_name}
-use Rattle.td_types.specs.Types as types
-use Rattle.td_value.specs.Values.{Val, relation_value}
+use Rattle.td_catalog.specs.model.Database.{Database}
+use Rattle.td_catalog.specs.model.TypedDatabases.{AreTyped}
+use Rattle.td_check.specs.model.Scopes.{KnownRelvar, Scope, known_relvar}
+use Rattle.td_eval.specs.model.DatabaseWorlds.{with_other, world_of}
+use Rattle.td_eval.specs.laws.ValueTypes.{KeepsType, OtherRelationsKeepScopes}
+use Rattle.td_tree.specs.model.Outcomes.{Outcome, Valued}
+use Rattle.td_types.specs.model.TypeLists.{AreKnown, DeclaredType}
+use Rattle.td_types.specs.model.Types.{pack, same_name}
+use Rattle.td_types.specs.model.Types as types
+use Rattle.td_value.specs.model.Values.{Val, relation_value}
 use Rattle.td_eval.proofs.code_lemmas.WorldParts.{base_value, world_scope}
 
 -- the types that its world knows

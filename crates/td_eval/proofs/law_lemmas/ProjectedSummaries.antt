@@ -1,26 +1,26 @@
 -- SUMMARIZE BY is SUMMARIZE PER of the projection of its operand.
 use Rattle.std.proofs.Common.{◌≡◌, ◌∙◌, ◌⊎◌, inl, inr, true, Some, ap, map, refl, subst, sym}
 use Rattle.std.specs.Prelude.{◌↔◌}
-use Rattle.td_check.specs.OperatorTypes.{extension_type, item_type, named_part, per_heading, postfix_type, relation_if, summary_type}
-use Rattle.td_check.specs.Scopes.{entered_with}
-use Rattle.td_check.specs.StaticTypes.{items_of, type_of, with_items}
+use Rattle.td_check.specs.model.OperatorTypes.{extension_type, item_type, named_part, per_heading, postfix_type, relation_if, summary_type}
+use Rattle.td_check.specs.model.Scopes.{entered_with}
+use Rattle.td_check.specs.model.StaticTypes.{items_of, type_of, with_items}
 use Rattle.td_check.proofs.StaticLaws.{types_are_known}
 use Rattle.td_check.proofs.SummaryLaws.{Items}
-use Rattle.td_eval.specs.Worlds.{with_tuples}
+use Rattle.td_eval.specs.model.Worlds.{with_tuples}
 use Rattle.td_tree.specs.declared.cause.Cause.{Cause}
 use Rattle.td_tree.specs.declared.cause.Cause.TheVariants as causes
-use Rattle.td_tree.specs.Outcomes.{Causes, Union, Has, Outcome, Valued, Refused, gathered, value_if, with_both, with_value}
-use Rattle.td_tree.specs.Trees.{Attributes, project}
-use Rattle.td_types.specs.Headings.{is_part}
+use Rattle.td_tree.specs.model.Outcomes.{Causes, Union, Has, Outcome, Valued, Refused, gathered, value_if, with_both, with_value}
+use Rattle.td_tree.specs.model.Trees.{Attributes, project}
+use Rattle.td_types.specs.model.Headings.{is_part}
 use Rattle.td_types.specs.code.TypeCode.{unpack_pack}
-use Rattle.td_types.specs.Types.{Attrs, Heading, IsHeading, IsType, Type', boolean, char, integer, pack, relation, tuple, unpack, user}
+use Rattle.td_types.specs.model.Types.{Attrs, Heading, IsHeading, IsType, Type', boolean, char, integer, pack, relation, tuple, unpack, user}
 use Rattle.td_types.proofs.Meanings.{pack_unpack}
 use Rattle.td_types.proofs.OutcomeLaws.{values_of_both}
-use Rattle.td_value.specs.Values.{Val}
-use Rattle.td_eval.specs.AggregateValues.{summary_attributes, summary_value}
-use Rattle.td_eval.specs.OperatorValues.{postfix_value}
-use Rattle.td_eval.specs.TreeValues.{items_in_tuples, value_of}
-use Rattle.td_eval.specs.ValueLaws.{AreOneOutcome, SummarizeByIsPerOfTheProjection}
+use Rattle.td_value.specs.model.Values.{Val}
+use Rattle.td_eval.specs.model.AggregateValues.{summary_attributes, summary_value}
+use Rattle.td_eval.specs.model.OperatorValues.{postfix_value}
+use Rattle.td_eval.specs.model.TreeValues.{items_in_tuples, value_of}
+use Rattle.td_eval.specs.laws.ValueLaws.{AreOneOutcome, SummarizeByIsPerOfTheProjection}
 use Rattle.td_eval.proofs.code_lemmas.SummaryParts.{by_type, meant_is_part, per_type}
 use Rattle.td_eval.proofs.law_lemmas.TupleOrder.{one_itself, one_least}
 

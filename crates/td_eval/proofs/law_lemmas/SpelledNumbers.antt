@@ -1,11 +1,11 @@
 -- The numbers in what tokens spell are in range: a number that is not is no literal.
 use Rattle.std.proofs.Common.{List}
-use Rattle.td_eval.specs.TreeNumbers.{HasNumbers, HaveNumbers, IsInRangeLiteral, ItemsHaveNumbers, PartsHaveNumbers, SpelledNumbersAreInRange}
+use Rattle.td_eval.specs.laws.TreeNumbers.{HasNumbers, HaveNumbers, IsInRangeLiteral, ItemsHaveNumbers, PartsHaveNumbers, SpelledNumbersAreInRange}
 use Rattle.td_tree.specs.declared.operator.Level.{Level}
-use Rattle.td_tree.specs.Grammar as g
-use Rattle.td_tree.specs.Grammar.{AdditionsSpelling, ExpressionsSpelling, ListSpelling, LiteralSpelling, PartsSpelling, SettingsSpelling, Spelling, SummariesSpelling}
-use Rattle.td_tree.specs.Lexemes.{Lexeme}
-use Rattle.td_tree.specs.Trees.{Literal, NamedTrees, Summaries, Tree, Trees}
+use Rattle.td_tree.specs.model.Grammar as g
+use Rattle.td_tree.specs.model.Grammar.{AdditionsSpelling, ExpressionsSpelling, ListSpelling, LiteralSpelling, PartsSpelling, SettingsSpelling, Spelling, SummariesSpelling}
+use Rattle.td_tree.specs.model.Lexemes.{Lexeme}
+use Rattle.td_tree.specs.model.Trees.{Literal, NamedTrees, Summaries, Tree, Trees}
 
 literal_in_range : {xs : List Lexeme} {l : Literal} → LiteralSpelling xs l → IsInRangeLiteral l
 literal_in_range (g.number_literal low) = low

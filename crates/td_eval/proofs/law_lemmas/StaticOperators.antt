@@ -2,12 +2,12 @@
 use Rattle.std.proofs.Common.{◌≡◌, ◌++◌, ℕ, nat_eq, Bool, true, not, ◌&&◌, ◌||◌, List, [], ◌∷◌, length, map, refl}
 use Rattle.std.specs.List.{zip}
 use Rattle.std.specs.Ordering.{eq_by_cmp}
-use Rattle.td_algebra.specs.Operators.{composition, difference, intersection, is_subset, join, product, projected_relation, renamed_relation, semidifference, semijoin, union}
-use Rattle.td_check.specs.CannotFail.{measure_cannot_fail, operator_cannot_fail, prefix_cannot_fail}
-use Rattle.td_check.specs.OperatorTypes.{attribute_type, equality_type, known_or, named_part, over_relation, over_tuple, renaming_pairs, same_heading, same_type}
-use Rattle.td_eval.specs.OperatorValues.{at_most, comparison_value, component_value, components_of, element_of, equality_value, extracted_value, headed_value, less_or_equal, less_than, listed_names, listed_value, measure_value, membership_value, nested_names, of_relation, of_truth, on_relations, on_text, operator_value, postfix_value, prefix_value, projected_names, relation_where, tuple_from}
-use Rattle.td_group.specs.Closure.{closure}
-use Rattle.td_group.specs.Nesting.{can_nest, can_unnest, grouped_relation, unnested_relation, wrapped_relation}
+use Rattle.td_algebra.specs.model.Operators.{composition, difference, intersection, is_subset, join, product, projected_relation, renamed_relation, semidifference, semijoin, union}
+use Rattle.td_check.specs.laws.CannotFail.{measure_cannot_fail, operator_cannot_fail, prefix_cannot_fail}
+use Rattle.td_check.specs.model.OperatorTypes.{attribute_type, equality_type, known_or, named_part, over_relation, over_tuple, renaming_pairs, same_heading, same_type}
+use Rattle.td_eval.specs.model.OperatorValues.{at_most, comparison_value, component_value, components_of, element_of, equality_value, extracted_value, headed_value, less_or_equal, less_than, listed_names, listed_value, measure_value, membership_value, nested_names, of_relation, of_truth, on_relations, on_text, operator_value, postfix_value, prefix_value, projected_names, relation_where, tuple_from}
+use Rattle.td_group.specs.model.Closure.{closure}
+use Rattle.td_group.specs.model.Nesting.{can_nest, can_unnest, grouped_relation, unnested_relation, wrapped_relation}
 use Rattle.td_eval.proofs.law_lemmas.StaticOutcomes.{IsStatic, gathered_static, known_static, over_relation_static, over_tuple_static, relation_static, relations_static, test_static, text_static, truth_static, truths_static, tuple_static, with_static}
 use Rattle.td_tree.specs.declared.cause.Cause.TheVariants as causes
 use Rattle.td_tree.specs.declared.operator.Comparison.{Comparison}
@@ -18,15 +18,14 @@ use Rattle.td_tree.specs.declared.operator.Operator.{Operator}
 use Rattle.td_tree.specs.declared.operator.Operator.TheVariants as operators
 use Rattle.td_tree.specs.declared.operator.Prefix.{Prefix}
 use Rattle.td_tree.specs.declared.operator.Prefix.TheVariants as prefixes
-use Rattle.td_tree.specs.Outcomes.{Valued, gathered, value_if, with_value}
-use Rattle.td_tree.specs.Trees.{Attributes, only, all_but, Postfix, project, rename, group, ungroup, wrap, unwrap}
-use Rattle.td_types.specs.Headings.{agree, are_distinct, can_rename, has_projection, have_no_common, is_closable, outside, projected_heading, projection}
-use Rattle.td_types.specs.TypeLists.{DeclaredType, declared_at}
-use Rattle.td_types.specs.Types.{Type', Heading, attribute_names, type_at, unpack}
-use Rattle.td_types.specs.Types as types
-use Rattle.td_value.specs.Sets.{has}
-use Rattle.td_value.specs.Values.{Val, boolean, integer, char, relation_value, tuple_value, user, tuple, relation, Relation, Tuple, heading_of, made_tuple, relation_of, tuple_cmp, tuple_names, tuple_of, type_of, unpack_fields, unpack_rows, value_at, value_cmp}
-use Rattle.td_value.specs.code.Views.{relation_view}
+use Rattle.td_tree.specs.model.Outcomes.{Valued, gathered, value_if, with_value}
+use Rattle.td_tree.specs.model.Trees.{Attributes, only, all_but, Postfix, project, rename, group, ungroup, wrap, unwrap}
+use Rattle.td_types.specs.model.Headings.{agree, are_distinct, can_rename, has_projection, have_no_common, is_closable, outside, projected_heading, projection}
+use Rattle.td_types.specs.model.TypeLists.{DeclaredType, declared_at}
+use Rattle.td_types.specs.model.Types.{Type', Heading, attribute_names, type_at, unpack}
+use Rattle.td_types.specs.model.Types as types
+use Rattle.td_value.specs.model.Sets.{has}
+use Rattle.td_value.specs.model.Values.{Val, boolean, integer, char, relation_value, tuple_value, user, tuple, relation, Relation, Tuple, heading_of, made_tuple, relation_of, tuple_cmp, tuple_names, tuple_of, type_of, unpack_fields, unpack_rows, value_at, value_cmp, relation_view}
 
 -- ---- operators of one operand
 

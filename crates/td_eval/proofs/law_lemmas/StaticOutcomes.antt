@@ -4,17 +4,16 @@ use Rattle.std.proofs.Common.{◌≡◌, inl, ℕ, Bool, true, false, Contains, 
 use Rattle.std.specs.Prelude.{⊤}
 use Rattle.std.specs.List.{AllByRecursion}
 use Rattle.td_algebra.proofs.Lists.{contains_first, contains_later}
-use Rattle.td_check.specs.OperatorTypes.{known_or, over_relation, over_tuple}
-use Rattle.td_eval.specs.OperatorValues.{on_relation, on_relations, on_text, on_truth, on_truths, on_tuple}
-use Rattle.td_eval.specs.ValueTypes.{IsDynamic, IsOfType, KeepsType}
+use Rattle.td_check.specs.model.OperatorTypes.{known_or, over_relation, over_tuple}
+use Rattle.td_eval.specs.model.OperatorValues.{on_relation, on_relations, on_text, on_truth, on_truths, on_tuple}
+use Rattle.td_eval.specs.laws.ValueTypes.{IsDynamic, IsOfType, KeepsType}
 use Rattle.td_tree.specs.declared.cause.Cause.{Cause}
 use Rattle.td_tree.specs.declared.cause.Cause.TheVariants as causes
-use Rattle.td_tree.specs.Outcomes.{Causes, Has, Outcome, Valued, Refused, gathered, value_if, with_both, with_value}
-use Rattle.td_types.specs.TypeLists.{DeclaredType}
-use Rattle.td_types.specs.Types.{Type', Heading, unpack}
-use Rattle.td_types.specs.Types as types
-use Rattle.td_value.specs.Values.{Val, boolean, char, tuple, relation, Relation, Tuple, unpack_fields, unpack_rows}
-use Rattle.td_value.specs.code.Views.{relation_view}
+use Rattle.td_tree.specs.model.Outcomes.{Causes, Has, Outcome, Valued, Refused, gathered, value_if, with_both, with_value}
+use Rattle.td_types.specs.model.TypeLists.{DeclaredType}
+use Rattle.td_types.specs.model.Types.{Type', Heading, unpack}
+use Rattle.td_types.specs.model.Types as types
+use Rattle.td_value.specs.model.Values.{Val, boolean, char, tuple, relation, Relation, Tuple, unpack_fields, unpack_rows, relation_view}
 
 -- one of the causes is not dynamic
 abbrev pub HasStatic : Causes → Type 0

@@ -2,26 +2,25 @@
 use Rattle.std.proofs.Common.{◌≡◌, ◌∙◌, Contains, List, [], ◌∷◌, ap, fold, map, not, refl, subst, sym}
 use Rattle.std.specs.List.{AllByRecursion, list_all}
 use Rattle.std.specs.Prelude.{◌&&◌}
-use Rattle.td_algebra.specs.Operators.{extended_relation, restriction, set_relation}
-use Rattle.td_check.specs.Mentions.{in_tuples}
-use Rattle.td_check.specs.OperatorTypes.{extended_by, over_relation, same_type, set_heading}
-use Rattle.td_check.specs.Scopes.{Scope, entered_with}
-use Rattle.td_eval.specs.AggregateValues.{group_values, summarized_value, summary_in, summary_value}
-use Rattle.td_eval.specs.OperatorValues.{additions_of, columns_values, extended_by_settings, extended_value, is_true, of_relation, on_relation, on_truth, restricted_value, set_value, truth_value, value_of_type}
-use Rattle.td_eval.specs.ValueTypes.{IsOfType, KeepsType}
+use Rattle.td_algebra.specs.model.Operators.{extended_relation, restriction, set_relation}
+use Rattle.td_check.specs.model.Mentions.{in_tuples}
+use Rattle.td_check.specs.model.OperatorTypes.{extended_by, over_relation, same_type, set_heading}
+use Rattle.td_check.specs.model.Scopes.{Scope, entered_with}
+use Rattle.td_eval.specs.model.AggregateValues.{group_values, summarized_value, summary_in, summary_value}
+use Rattle.td_eval.specs.model.OperatorValues.{additions_of, columns_values, extended_by_settings, extended_value, is_true, of_relation, on_relation, on_truth, restricted_value, set_value, truth_value, value_of_type}
+use Rattle.td_eval.specs.laws.ValueTypes.{IsOfType, KeepsType}
 use Rattle.td_eval.proofs.code_lemmas.TypedRows.{parts_typed}
-use Rattle.td_group.specs.Groups.{groups}
+use Rattle.td_group.specs.model.Groups.{groups}
 use Rattle.td_eval.proofs.law_lemmas.StaticOutcomes.{IsStatic, gathered_static, list_static, relations_static, test_static, truth_static, with_static}
 use Rattle.td_tree.specs.declared.cause.Cause.TheVariants as causes
-use Rattle.td_tree.specs.Outcomes.{Outcome, Valued, Refused, gathered, value_if, with_value}
-use Rattle.td_types.specs.Headings.{are_distinct, has_attribute, heading_union, is_part, outside, with_attribute}
+use Rattle.td_tree.specs.model.Outcomes.{Outcome, Valued, Refused, gathered, value_if, with_value}
+use Rattle.td_types.specs.model.Headings.{are_distinct, has_attribute, heading_union, is_part, outside, with_attribute}
 use Rattle.td_types.specs.code.TypeCode.{unpack_pack}
-use Rattle.td_types.specs.TypeLists.{DeclaredType}
-use Rattle.td_types.specs.Types.{Type', Attribute, Heading, attribute_names, pack, unpack}
-use Rattle.td_types.specs.Types as types
+use Rattle.td_types.specs.model.TypeLists.{DeclaredType}
+use Rattle.td_types.specs.model.Types.{Type', Attribute, Heading, attribute_names, pack, unpack}
+use Rattle.td_types.specs.model.Types as types
 use Rattle.td_types.proofs.Meanings.{pack_unpack}
-use Rattle.td_value.specs.Values.{Val, relation, Relation, Tuple, relation_value, type_of, unpack_rows}
-use Rattle.td_value.specs.code.Views.{relation_view}
+use Rattle.td_value.specs.model.Values.{Val, relation, Relation, Tuple, relation_value, type_of, unpack_rows, relation_view}
 
 -- ---- WHERE
 

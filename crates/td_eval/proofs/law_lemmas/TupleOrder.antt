@@ -3,23 +3,22 @@ use Rattle.std.proofs.Common.{◌≡◌, ◌∙◌, ◌⊎◌, inl, inr, Bool, L
 use Rattle.std.specs.Prelude.{◌↔◌, ⊤}
 use Rattle.std.specs.List.{Contains}
 use Rattle.std.proofs.lemmas.List.Kept.{IsStrictlySortedBy-filter}
-use Rattle.td_algebra.specs.Operators.{Addition, extended_relation, extended_tuple, restriction, set_relation, set_tuple}
+use Rattle.td_algebra.specs.model.Operators.{Addition, extended_relation, extended_tuple, restriction, set_relation, set_tuple}
 use Rattle.td_algebra.proofs.Joined.{sets_alike}
 use Rattle.td_algebra.proofs.Lists.{contains_cases, contains_filter, contains_first, contains_later, contains_map, contains_none}
 use Rattle.td_algebra.proofs.Relations.{rows_ascend}
-use Rattle.td_check.specs.OperatorTypes.{extended_by, set_heading}
+use Rattle.td_check.specs.model.OperatorTypes.{extended_by, set_heading}
 use Rattle.td_tree.specs.code.CauseCode.{numbered_number}
-use Rattle.td_tree.specs.Causes.{number_of}
+use Rattle.td_tree.specs.model.Causes.{number_of}
 use Rattle.td_tree.specs.declared.cause.Cause.{Cause}
-use Rattle.td_tree.specs.Outcomes.{Causes, Has, Outcome, Valued, Refused, gathered, least, with_both, with_value}
+use Rattle.td_tree.specs.model.Outcomes.{Causes, Has, Outcome, Valued, Refused, gathered, least, with_both, with_value}
 use Rattle.td_tree.proofs.law_lemmas.LeastCauses.{least_is_named}
-use Rattle.td_types.specs.Types.{Attribute, Heading}
-use Rattle.td_value.specs.ValueOrder.{tuple_order_same, tuple_order_total}
-use Rattle.td_value.specs.Values.{Val, HaveSameMembers, IsRelation, Relation, Tuple, relation_of, relation_value, tuple_cmp}
-use Rattle.td_value.specs.code.Views.{relation_view}
+use Rattle.td_types.specs.model.Types.{Attribute, Heading}
+use Rattle.td_value.specs.code.ValueOrder.{tuple_order_same, tuple_order_total}
+use Rattle.td_value.specs.model.Values.{Val, HaveSameMembers, IsRelation, Relation, Tuple, relation_of, relation_value, tuple_cmp, relation_view}
 use Rattle.td_value.proofs.SetLaws.{is_set_of}
-use Rattle.td_eval.specs.OperatorValues.{additions_of, columns_values, extended_by_settings, extended_value, is_true, of_relation, restricted_value, set_value, truth_value, value_of_type}
-use Rattle.td_eval.specs.ValueLaws.{AreOneOutcome, restricted_in_turn}
+use Rattle.td_eval.specs.model.OperatorValues.{additions_of, columns_values, extended_by_settings, extended_value, is_true, of_relation, restricted_value, set_value, truth_value, value_of_type}
+use Rattle.td_eval.specs.laws.ValueLaws.{AreOneOutcome, restricted_in_turn}
 
 -- ---- sets of causes
 

@@ -2,23 +2,23 @@
 use Rattle.std.proofs.Common.{◌≡◌, true, List, [], ◌∷◌, Option, Some, None, ap, subst, sym}
 use Rattle.std.specs.List.{AllByRecursion}
 use Rattle.td_algebra.proofs.Members.{first_true, second_true}
-use Rattle.td_check.specs.OperatorTypes.{are_types_of, known_or, same_type}
-use Rattle.td_check.specs.StaticTypes.{type_of, types_of}
-use Rattle.td_check.specs.Scopes.{Scope}
+use Rattle.td_check.specs.model.OperatorTypes.{are_types_of, known_or, same_type}
+use Rattle.td_check.specs.model.StaticTypes.{type_of, types_of}
+use Rattle.td_check.specs.model.Scopes.{Scope}
 use Rattle.td_tree.specs.declared.cause.Cause.{Cause}
-use Rattle.td_tree.specs.Outcomes.{Outcome, Valued}
-use Rattle.td_tree.specs.Trees.{Trees, none, more}
-use Rattle.td_types.specs.TypeLists.{DeclaredType}
-use Rattle.td_types.specs.Types.{Type', Attribute}
+use Rattle.td_tree.specs.model.Outcomes.{Outcome, Valued}
+use Rattle.td_tree.specs.model.Trees.{Trees, none, more}
+use Rattle.td_types.specs.model.TypeLists.{DeclaredType}
+use Rattle.td_types.specs.model.Types.{Type', Attribute}
 use Rattle.td_types.proofs.OutcomeLaws.{valued_is, values_of_both}
-use Rattle.td_value.specs.KnownValues.{AreOfTypes}
-use Rattle.td_value.specs.Values.{Val, AreValues, Tuple, pack_parts}
-use Rattle.td_eval.specs.TreeValues.{argument_values, value_of}
-use Rattle.td_eval.specs.ValueTypes.{IsOfType, IsTypedTuple, KeepsScope, KeepsType}
-use Rattle.td_eval.specs.Worlds.{World, with_tuples}
+use Rattle.td_value.specs.model.KnownValues.{AreOfTypes}
+use Rattle.td_value.specs.model.Values.{Val, AreValues, Tuple, pack_parts}
+use Rattle.td_eval.specs.model.TreeValues.{argument_values, value_of}
+use Rattle.td_eval.specs.laws.ValueTypes.{IsOfType, IsTypedTuple, KeepsScope, KeepsType}
+use Rattle.td_eval.specs.model.Worlds.{World, with_tuples}
 use Rattle.td_eval.proofs.code_lemmas.TypedTrees.{keeps}
 use Rattle.td_eval.proofs.code_lemmas.TypedValues.{type_is}
-use Rattle.td_tree.specs.WrittenTrees.{GiveNames, HaveTexts}
+use Rattle.td_tree.specs.model.WrittenTrees.{GiveNames, HaveTexts}
 
 -- what is known is there
 pub known_is : {A : Type 0} (cause : Cause) (o : Option A) (x : A) → known_or cause o ≡ Valued x → o ≡ Some x

@@ -5,48 +5,46 @@ use Rattle.std.specs.List.{AllByRecursion, zip}
 use Rattle.std.specs.Prelude.{⊤, is_some}
 use Rattle.td_algebra.proofs.Lists.{contains_none}
 use Rattle.td_algebra.proofs.Entries.{names-heading}
-use Rattle.td_catalog.specs.Database.{BaseRelvar, Database, VirtualRelvar, base_among, database_scope, known_base, known_virtual}
-use Rattle.td_catalog.specs.TypedDatabases.{EachAfter, IsConstrained, IsTyped, IsTypedBase, IsTypedVirtual}
-use Rattle.td_catalog.specs.WrittenDefinitions.{DefinitionsAreWritten}
-use Rattle.td_check.specs.OperatorTypes.{are_types_of, if_type, same_type}
+use Rattle.td_catalog.specs.model.Database.{BaseRelvar, Database, VirtualRelvar, base_among, database_scope, known_base, known_virtual}
+use Rattle.td_catalog.specs.model.TypedDatabases.{EachAfter, IsConstrained, IsTyped, IsTypedBase, IsTypedVirtual}
+use Rattle.td_catalog.specs.model.WrittenDefinitions.{DefinitionsAreWritten}
+use Rattle.td_check.specs.model.OperatorTypes.{are_types_of, if_type, same_type}
 use Rattle.td_check.specs.declared.scope.Kind.TheVariants as kinds
-use Rattle.td_check.specs.Scopes.{KnownRelvar, Scope, alone_with, known_relvar, relvar_in, scope_of, with_known_relvar}
-use Rattle.td_check.specs.StatementTypes.{constraint_fits}
-use Rattle.td_check.specs.StaticLaws.{IsKnownHeading}
-use Rattle.td_check.specs.StaticTypes.{type_of}
+use Rattle.td_check.specs.model.Scopes.{KnownRelvar, Scope, alone_with, known_relvar, relvar_in, scope_of, with_known_relvar}
+use Rattle.td_check.specs.model.StatementTypes.{constraint_fits}
+use Rattle.td_check.specs.laws.StaticLaws.{IsKnownHeading}
+use Rattle.td_check.specs.model.StaticTypes.{type_of}
 use Rattle.td_check.proofs.ScopeLaws.{scopes_are_kept}
 use Rattle.td_check.proofs.StaticLaws.{types_are_known}
 use Rattle.td_tree.specs.declared.cause.Cause.TheVariants as causes
-use Rattle.td_tree.specs.Names.{IsName}
-use Rattle.td_tree.specs.Outcomes.{Outcome, Valued, Refused, value_if, with_value}
-use Rattle.td_tree.specs.Trees.{Tree}
-use Rattle.td_types.specs.Headings.{are_distinct, heading_from}
-use Rattle.td_types.specs.TypeLists.{AreDeclared, AreKnown, DeclaredType, IsDeclarable, IsKnown, declared_at, is_declared}
-use Rattle.td_types.specs.TypeOrder.{type_eq-Decides}
-use Rattle.td_types.specs.Types.{Attribute, Attrs, Heading, Type', attr, attribute_names, no_attrs, pack, same_name}
-use Rattle.td_types.specs.Types as types
+use Rattle.td_tree.specs.model.Names.{IsName}
+use Rattle.td_tree.specs.model.Outcomes.{Outcome, Valued, Refused, value_if, with_value}
+use Rattle.td_tree.specs.model.Trees.{Tree}
+use Rattle.td_types.specs.model.Headings.{are_distinct, heading_from}
+use Rattle.td_types.specs.model.TypeLists.{AreDeclared, AreKnown, DeclaredType, IsDeclarable, IsKnown, declared_at, is_declared, ConstraintsAreWritten}
+use Rattle.td_types.specs.code.TypeOrder.{type_eq-Decides}
+use Rattle.td_types.specs.model.Types.{Attribute, Attrs, Heading, Type', attr, attribute_names, no_attrs, pack, same_name}
+use Rattle.td_types.specs.model.Types as types
 use Rattle.td_types.proofs.DeclaredTypes.{AreDeclared-front, IsKnown-earlier, declarable_at, declared_at-itself, declared_at-later, found, stands_in}
 use Rattle.td_types.proofs.KnownTypes.{declared_more}
 use Rattle.td_types.proofs.OutcomeLaws.{value_of_test, value_of_with}
 use Rattle.td_types.proofs.Ranks.{known_components}
-use Rattle.td_value.specs.KnownValues.{AreOfTypes, HasHeading, HasType, HaveHeading}
-use Rattle.td_value.specs.Values.{Val, boolean, integer, char, relation_value, user, tuple, relation, AreValues, Fields, no_fields, field, Parts, no_parts, part, Rows, no_rows, row, Tuple, heading_of, made_tuple, pack_parts, selected_value, tuple_names, tuple_of}
-use Rattle.td_value.specs.Values as values
-use Rattle.td_value.specs.code.Views.{user_view}
+use Rattle.td_value.specs.model.KnownValues.{AreOfTypes, HasHeading, HasType, HaveHeading}
+use Rattle.td_value.specs.model.Values.{Val, boolean, integer, char, relation_value, user, tuple, relation, AreValues, Fields, no_fields, field, Parts, no_parts, part, Rows, no_rows, row, Tuple, heading_of, made_tuple, pack_parts, selected_value, tuple_names, tuple_of, user_view}
+use Rattle.td_value.specs.model.Values as values
 use Rattle.td_value.proofs.KnownValues.{has_its_type, kept}
-use Rattle.td_eval.specs.DatabaseWorlds.{Selectors, constraint_value, selector_value, selectors_of, types_alone, with_selector, with_virtual_value, world_of}
-use Rattle.td_eval.specs.OperatorValues.{truth_value}
-use Rattle.td_eval.specs.TreeValues.{value_of}
-use Rattle.td_eval.specs.ValueTypes.{AreComponentsOf, IsOfType, KeepsScope, KeepsType, TypedDatabasesKeepScopes}
-use Rattle.td_eval.specs.Worlds.{World}
+use Rattle.td_eval.specs.model.DatabaseWorlds.{Selectors, constraint_value, selector_value, selectors_of, types_alone, with_selector, with_virtual_value, world_of}
+use Rattle.td_eval.specs.model.OperatorValues.{truth_value}
+use Rattle.td_eval.specs.model.TreeValues.{value_of}
+use Rattle.td_eval.specs.laws.ValueTypes.{AreComponentsOf, IsOfType, KeepsScope, KeepsType, TypedDatabasesKeepScopes}
+use Rattle.td_eval.specs.model.Worlds.{World}
 use Rattle.td_eval.proofs.code_lemmas.KeepsGathered.{Keeps, all_from_members, one_dynamic}
 use Rattle.td_eval.proofs.law_lemmas.KnownRelvars.{fronted, never_none, of_front, one_more_scope, one_more_world, relvar_behind, relvar_more, some_one, unknown_lacks}
 use Rattle.td_eval.proofs.code_lemmas.TypedRows.{IsTypedEntry, made_typed, own_type}
 use Rattle.td_eval.proofs.code_lemmas.TypedTrees.{values_keep_types}
 use Rattle.td_eval.proofs.code_lemmas.TypedValues.{truth_of, type_is}
 use Rattle.td_eval.proofs.code_lemmas.WorldParts.{world_scope}
-use Rattle.td_tree.specs.WrittenTrees.{IsWritten}
-use Rattle.td_types.specs.TypeListLaws.{ConstraintsAreWritten}
+use Rattle.td_tree.specs.model.WrittenTrees.{IsWritten}
 
 -- ---- a value of a type that is known to the first types is one where they alone are declared
 

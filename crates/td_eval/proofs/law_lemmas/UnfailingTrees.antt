@@ -4,41 +4,41 @@ use Rattle.std.specs.List.{AllByRecursion}
 use Rattle.std.specs.Prelude.{◌^◌, if◌then◌else◌, is_some, nat_lt}
 use Rattle.std.proofs.lemmas.Bool.Decides.{nat_tests}
 use Rattle.td_algebra.proofs.Members.{first_true, second_true}
-use Rattle.td_check.specs.CannotFail.{all_cannot_fail, cannot_fail, is_no_virtual, items_cannot_fail, measure_cannot_fail, name_cannot_fail, none_fails_where_bound, operator_cannot_fail, parts_cannot_fail, prefix_cannot_fail, selector_cannot_fail}
+use Rattle.td_check.specs.laws.CannotFail.{all_cannot_fail, cannot_fail, is_no_virtual, items_cannot_fail, measure_cannot_fail, name_cannot_fail, none_fails_where_bound, operator_cannot_fail, parts_cannot_fail, prefix_cannot_fail, selector_cannot_fail}
 use Rattle.td_check.specs.declared.scope.Kind.{Kind}
 use Rattle.td_check.specs.declared.scope.Kind.TheVariants as kinds
-use Rattle.td_check.specs.Mentions.{behind_item, in_tuples}
-use Rattle.td_check.specs.OperatorTypes.{are_types_of, choice_type, comparison_type, component_type, extension_type, extracted_type, headed_type, known_or, listed_type, measure_type, misfit, mismatch, named_part, operator_type, over_relation, per_heading, postfix_type, prefix_type, restriction_type, selector_type, setting_type, summary_type, tuple_type}
-use Rattle.td_check.specs.Scopes.{KnownRelvar, Scope, bound_to, entered_with, innermost, known_relvar}
-use Rattle.td_check.specs.StaticLaws.{HasMore}
-use Rattle.td_check.specs.StaticTypes.{items_of, name_type, named_types, both_types, type_of, type_where_bound, types_of, with_items}
+use Rattle.td_check.specs.model.Mentions.{behind_item, in_tuples}
+use Rattle.td_check.specs.model.OperatorTypes.{are_types_of, choice_type, comparison_type, component_type, extension_type, extracted_type, headed_type, known_or, listed_type, measure_type, misfit, mismatch, named_part, operator_type, over_relation, per_heading, postfix_type, prefix_type, restriction_type, selector_type, setting_type, summary_type, tuple_type}
+use Rattle.td_check.specs.model.Scopes.{KnownRelvar, Scope, bound_to, entered_with, innermost, known_relvar}
+use Rattle.td_check.specs.laws.StaticLaws.{HasMore}
+use Rattle.td_check.specs.model.StaticTypes.{items_of, name_type, named_types, both_types, type_of, type_where_bound, types_of, with_items}
 use Rattle.td_check.proofs.StaticLaws.{more_changes_no_parts}
-use Rattle.td_eval.specs.OperatorValues.{comparison_value, component_value, extended_by_settings, extended_value, extracted_value, headed_value, listed_value, literal_value, measure_value, on_relation, on_truth, operator_value, postfix_value, prefix_value, restricted_value, signed_number, tuple_from}
-use Rattle.td_eval.specs.TreeValues.{argument_values, entry_values, value_of, value_where_bound, values_in_tuples}
-use Rattle.td_eval.specs.AggregateValues.{summary_value}
-use Rattle.td_eval.specs.ValueTypes.{IsOfType, IsTypedTuple, KeepsType}
-use Rattle.td_eval.specs.Worlds.{World, innermost_value, known_outcome, name_value, selector_outcome, with_tuples}
+use Rattle.td_eval.specs.model.OperatorValues.{comparison_value, component_value, extended_by_settings, extended_value, extracted_value, headed_value, listed_value, literal_value, measure_value, on_relation, on_truth, operator_value, postfix_value, prefix_value, restricted_value, signed_number, tuple_from}
+use Rattle.td_eval.specs.model.TreeValues.{argument_values, entry_values, value_of, value_where_bound, values_in_tuples}
+use Rattle.td_eval.specs.model.AggregateValues.{summary_value}
+use Rattle.td_eval.specs.laws.ValueTypes.{IsOfType, IsTypedTuple, KeepsType}
+use Rattle.td_eval.specs.model.Worlds.{World, innermost_value, known_outcome, name_value, selector_outcome, with_tuples}
 use Rattle.td_eval.proofs.law_lemmas.TypedArguments.{arguments_typed, known_is}
 use Rattle.td_eval.proofs.code_lemmas.TypedRows.{one_typed, rows_typed}
 use Rattle.td_value.proofs.KnownValues.{has_its_type}
 use Rattle.td_eval.proofs.code_lemmas.TypedTrees.{innermost_typed, keeps, typed_behind}
-use Rattle.td_eval.specs.TreeNumbers.{HasNumbers, HaveNumbers, IsInRangeLiteral, PartsHaveNumbers}
-use Rattle.td_eval.specs.UnfailingValues.{GivesValues, UnfailingExpressionsHaveValues}
+use Rattle.td_eval.specs.laws.TreeNumbers.{HasNumbers, HaveNumbers, IsInRangeLiteral, PartsHaveNumbers}
+use Rattle.td_eval.specs.laws.UnfailingValues.{GivesValues, UnfailingExpressionsHaveValues}
 use Rattle.td_eval.proofs.law_lemmas.StaticOperators.{comparison_static, component_static, extracted_static, headed_static, listed_static, measure_static, operator_static, postfix_static, prefix_static, tuple_from_static}
 use Rattle.td_eval.proofs.law_lemmas.StaticOutcomes.{IsStatic, both_static, has_value, truth_static, with_static}
 use Rattle.td_eval.proofs.law_lemmas.StaticRows.{AreStaticIn, extension_static, in_its_tuples, kept_static, over_its_heading, restricted_static, rows_static, setting_static, summary_static}
 use Rattle.td_tree.specs.declared.cause.Cause.TheVariants as causes
-use Rattle.td_tree.specs.Outcomes.{Outcome, Valued, Refused, value_if, with_value}
-use Rattle.td_tree.specs.Trees.{AttributeTrees, Literal, number, text, truth, table_dee, table_dum, Tree, literal, name, parentheses, prefix, extract, restriction, binary, compare, postfix, select, component, measure, aggregate, relation, headed_relation, tuple, extend, extend_setting, summarize_per, summarize_by, choice, binding, Trees, none, more, NamedTrees, none_named, more_named, Summaries, no_summaries, counted, summed, project}
-use Rattle.td_tree.specs.WrittenTrees.{GiveNames, GivesNames, HasTexts, HaveTexts, PartsGiveNames, PartsHaveTexts}
-use Rattle.td_types.specs.Headings.{has_name, made_heading}
-use Rattle.td_types.specs.TypeLists.{DeclaredType, attributes_meant, declared_at, heading_meant}
-use Rattle.td_types.specs.Types.{Type', Attribute, Heading, pack}
-use Rattle.td_types.specs.Types as types
+use Rattle.td_tree.specs.model.Outcomes.{Outcome, Valued, Refused, value_if, with_value}
+use Rattle.td_tree.specs.model.Trees.{AttributeTrees, Literal, number, text, truth, table_dee, table_dum, Tree, literal, name, parentheses, prefix, extract, restriction, binary, compare, postfix, select, component, measure, aggregate, relation, headed_relation, tuple, extend, extend_setting, summarize_per, summarize_by, choice, binding, Trees, none, more, NamedTrees, none_named, more_named, Summaries, no_summaries, counted, summed, project}
+use Rattle.td_tree.specs.model.WrittenTrees.{GiveNames, GivesNames, HasTexts, HaveTexts, PartsGiveNames, PartsHaveTexts}
+use Rattle.td_types.specs.model.Headings.{has_name, made_heading}
+use Rattle.td_types.specs.model.TypeLists.{DeclaredType, attributes_meant, declared_at, heading_meant}
+use Rattle.td_types.specs.model.Types.{Type', Attribute, Heading, pack}
+use Rattle.td_types.specs.model.Types as types
 use Rattle.td_types.proofs.Meanings.{attributes_later}
 use Rattle.td_types.proofs.OutcomeLaws.{value_of_test, value_of_with, values_of_both}
-use Rattle.td_value.specs.Values.{Val, Relation, Tuple, heading_of, of_number, relation_value}
-use Rattle.td_value.specs.Values as values
+use Rattle.td_value.specs.model.Values.{Val, Relation, Tuple, heading_of, of_number, relation_value}
+use Rattle.td_value.specs.model.Values as values
 
 -- ---- nodes
 

@@ -4,26 +4,26 @@ use Rattle.std.proofs.lemmas.List.{map-append}
 use Rattle.std.specs.Prelude.{◌||◌, if◌then◌else◌, is_some}
 use Rattle.std.specs.List.{find, list_any}
 use Rattle.td_catalog.proofs.Lists.{not_true}
-use Rattle.td_catalog.specs.Database.{BaseRelvar, Database, VirtualRelvar, database_scope, relvar_names}
-use Rattle.td_catalog.specs.NamedRelvars.{names_any}
-use Rattle.td_catalog.specs.TypedDatabases.{IsTyped}
+use Rattle.td_catalog.specs.model.Database.{BaseRelvar, Database, VirtualRelvar, database_scope, relvar_names}
+use Rattle.td_catalog.specs.laws.NamedRelvars.{names_any}
+use Rattle.td_catalog.specs.model.TypedDatabases.{IsTyped}
 use Rattle.td_check.proofs.WrittenNames.{relvars_are_named}
 use Rattle.td_check.proofs.StaticLaws.{mentions_are_known, more_changes_nothing}
-use Rattle.td_check.specs.Mentions.{relvars_in}
-use Rattle.td_check.specs.Scopes.{known_relvar}
-use Rattle.td_check.specs.WrittenNames.{names_in}
+use Rattle.td_check.specs.model.Mentions.{relvars_in}
+use Rattle.td_check.specs.model.Scopes.{known_relvar}
+use Rattle.td_check.specs.laws.WrittenNames.{names_in}
 use Rattle.td_eval.proofs.law_lemmas.DistinctNames.{are_apart, has_first, has_name-append, has_rest}
 use Rattle.td_eval.proofs.law_lemmas.KnownRelvars.{front_has_more, fronted, known_name, named_at}
 use Rattle.td_eval.proofs.law_lemmas.MentionedEntries.{values_depend_on_entries}
 use Rattle.td_eval.proofs.law_lemmas.MoreWorlds.{any, any_users_all}
 use Rattle.td_eval.proofs.code_lemmas.WorldParts.{virtual_name}
-use Rattle.td_eval.specs.ReachedRelvars.{DiffersIn, UnreachedValuesStay, reached_from, with_dependent}
-use Rattle.td_eval.specs.ValueLaws.{AgreeOnRelvars, AgreeOnTypes}
+use Rattle.td_eval.specs.laws.ReachedRelvars.{DiffersIn, UnreachedValuesStay, reached_from, with_dependent}
+use Rattle.td_eval.specs.laws.ValueLaws.{AgreeOnRelvars, AgreeOnTypes}
 use Rattle.td_types.proofs.HeadingLaws.{same_name-itself}
 use Rattle.td_types.proofs.NameTests.{name_tests_tell}
-use Rattle.td_types.specs.Headings.{are_distinct, has_name}
-use Rattle.td_types.specs.TypeLists.{DeclaredType}
-use Rattle.td_types.specs.Types.{pack, relation, same_name}
+use Rattle.td_types.specs.model.Headings.{are_distinct, has_name}
+use Rattle.td_types.specs.model.TypeLists.{DeclaredType}
+use Rattle.td_types.specs.model.Types.{pack, relation, same_name}
 use Rattle.std.specs.Cmp.Lexicographic.{same_text}
 
 -- ---- names

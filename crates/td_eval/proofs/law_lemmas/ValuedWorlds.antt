@@ -1,26 +1,25 @@
 -- The world of a typed database gives values, also where a base relvar has another relation of its heading.
 use Rattle.std.proofs.Common.{◌≡◌, ◌∙◌, ℕ, Bool, true, false, List, [], ◌∷◌, Option, Some, None, ap, fold, map, option_map, refl, subst, sym}
-use Rattle.td_catalog.specs.Database.{BaseRelvar, Database, VirtualRelvar, base_named, database_scope, known_virtual, virtual_named}
+use Rattle.td_catalog.specs.model.Database.{BaseRelvar, Database, VirtualRelvar, base_named, database_scope, known_virtual, virtual_named}
 use Rattle.td_check.specs.declared.scope.Kind.TheVariants as kinds
-use Rattle.td_check.specs.OperatorTypes.{are_types_of}
-use Rattle.td_check.specs.Scopes.{KnownRelvar, Scope, known_relvar}
-use Rattle.td_eval.specs.DatabaseWorlds.{Selectors, constraint_value, selector_value, types_alone, with_other, with_selector, world_of}
-use Rattle.td_eval.specs.ValueTypes.{AreComponentsOf, KeepsScope, KeepsType}
-use Rattle.td_eval.specs.Worlds.{World, selector_outcome}
+use Rattle.td_check.specs.model.OperatorTypes.{are_types_of}
+use Rattle.td_check.specs.model.Scopes.{KnownRelvar, Scope, known_relvar}
+use Rattle.td_eval.specs.model.DatabaseWorlds.{Selectors, constraint_value, selector_value, types_alone, with_other, with_selector, world_of}
+use Rattle.td_eval.specs.laws.ValueTypes.{AreComponentsOf, KeepsScope, KeepsType}
+use Rattle.td_eval.specs.model.Worlds.{World, selector_outcome}
 use Rattle.td_eval.proofs.code_lemmas.AddedInTurn.{stays}
 use Rattle.td_eval.proofs.law_lemmas.KnownRelvars.{known_as_virtual, never_none, some_one}
 use Rattle.td_eval.proofs.law_lemmas.OtherRelations.{other_relations_keep_scopes}
 use Rattle.td_eval.proofs.law_lemmas.TypedDatabases.{typed_databases_keep_scopes}
 use Rattle.td_eval.proofs.code_lemmas.WorldParts.{base_value, world_scope, world_selectors}
-use Rattle.td_eval.specs.UnfailingValues.{GivesValues, OtherRelationsGiveValues, TypedDatabasesGiveValues}
+use Rattle.td_eval.specs.laws.UnfailingValues.{GivesValues, OtherRelationsGiveValues, TypedDatabasesGiveValues}
 use Rattle.td_eval.proofs.law_lemmas.StaticOutcomes.{IsStatic, has_value, test_static, with_static}
 use Rattle.td_tree.specs.declared.cause.Cause.TheVariants as causes
-use Rattle.td_tree.specs.Outcomes.{Outcome, Valued, value_if, with_value}
-use Rattle.td_types.specs.TypeLists.{DeclaredType, declared_at}
-use Rattle.td_types.specs.Types.{same_name}
-use Rattle.td_types.specs.Types as types
-use Rattle.td_value.specs.Values.{Val, relation_value, selected_value, type_of}
-use Rattle.td_value.specs.code.Views.{user_view}
+use Rattle.td_tree.specs.model.Outcomes.{Outcome, Valued, value_if, with_value}
+use Rattle.td_types.specs.model.TypeLists.{DeclaredType, declared_at}
+use Rattle.td_types.specs.model.Types.{same_name}
+use Rattle.td_types.specs.model.Types as types
+use Rattle.td_value.specs.model.Values.{Val, relation_value, selected_value, type_of, user_view}
 
 -- ---- selectors
 

@@ -1,20 +1,20 @@
 -- The definition of values on worked expressions.
 use Rattle.std.proofs.Common.{◌≡◌, ◌∷◌, ◌-◌, ◌^◌, ℕ, Bool, true, false, List, [], Some, pos, negsuc, refl}
-use Rattle.td_catalog.specs.Database.{empty_database, with_declared}
-use Rattle.td_eval.specs.DatabaseWorlds.{world_of}
-use Rattle.td_eval.specs.TreeValues.{value_of}
-use Rattle.td_eval.specs.Worlds.{World}
+use Rattle.td_catalog.specs.model.Database.{empty_database, with_declared}
+use Rattle.td_eval.specs.model.DatabaseWorlds.{world_of}
+use Rattle.td_eval.specs.model.TreeValues.{value_of}
+use Rattle.td_eval.specs.model.Worlds.{World}
 use Rattle.td_tree.specs.declared.cause.Cause.TheVariants as causes
 use Rattle.td_tree.specs.declared.operator.Comparison.TheVariants as comparisons
 use Rattle.td_tree.specs.declared.operator.Operator.TheVariants as operators
 use Rattle.td_tree.specs.declared.operator.Prefix.TheVariants as prefixes
-use Rattle.td_tree.specs.Outcomes.{Outcome, Valued, named_cause}
-use Rattle.td_tree.specs.Trees.{Tree, Trees}
-use Rattle.td_tree.specs.Trees as trees
-use Rattle.td_types.specs.TypeLists.{DeclaredType, declared_type}
-use Rattle.td_types.specs.Types as types
-use Rattle.td_value.specs.LiteralTrees.{literal_tree}
-use Rattle.td_value.specs.Values.{Val, boolean, char, integer, Fields, field, no_fields, no_parts, no_rows, part, relation, row, user}
+use Rattle.td_tree.specs.model.Outcomes.{Outcome, Valued, named_cause}
+use Rattle.td_tree.specs.model.Trees.{Tree, Trees}
+use Rattle.td_tree.specs.model.Trees as trees
+use Rattle.td_types.specs.model.TypeLists.{DeclaredType, declared_type}
+use Rattle.td_types.specs.model.Types as types
+use Rattle.td_value.specs.laws.LiteralTrees.{literal_tree}
+use Rattle.td_value.specs.model.Values.{Val, boolean, char, integer, Fields, field, no_fields, no_parts, no_rows, part, relation, row, user}
 
 abbrev value : Tree → Outcome Val
 value = value_of (world_of empty_database) []

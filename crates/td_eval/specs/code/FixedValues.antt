@@ -1,10 +1,10 @@
 -- Expressions that have the same values in every world, whatever tuples are in scope (this project's own).
 use Rattle.std.specs.Prelude.{◌≡◌, List, [], ◌∷◌, ◌++◌}
-use Rattle.td_eval.specs.TreeValues.{argument_values, entry_values, value_of}
-use Rattle.td_eval.specs.Worlds.{World}
-use Rattle.td_tree.specs.Outcomes.{Valued}
-use Rattle.td_tree.specs.Trees.{NamedTrees, Tree, Trees}
-use Rattle.td_value.specs.Values.{Tuple, Val, tuple_value}
+use Rattle.td_eval.specs.model.TreeValues.{argument_values, entry_values, value_of}
+use Rattle.td_eval.specs.model.Worlds.{World}
+use Rattle.td_tree.specs.model.Outcomes.{Valued}
+use Rattle.td_tree.specs.model.Trees.{NamedTrees, Tree, Trees}
+use Rattle.td_value.specs.model.Values.{Tuple, Val, tuple_value}
 
 -- an expression
 abbrev pub IsFixed : Tree → Val → Type 0

@@ -1,12 +1,12 @@
 -- New attributes with their values, which may be refused, as columns (this project's own).
 use Rattle.std.specs.Prelude.{◌≡◌, List, [], ◌∷◌, length}
-use Rattle.td_algebra.specs.Columns.{NamedColumn}
+use Rattle.td_algebra.specs.code.Columns.{NamedColumn}
 use Rattle.td_algebra.specs.declared.extension.Column.{Column}
-use Rattle.td_eval.specs.OperatorValues.{column_values}
-use Rattle.td_tree.specs.Outcomes.{Outcome, Valued, gathered, with_value}
-use Rattle.td_types.specs.Types.{Attribute}
+use Rattle.td_eval.specs.model.OperatorValues.{column_values}
+use Rattle.td_tree.specs.model.Outcomes.{Outcome, Valued, gathered, with_value}
+use Rattle.td_types.specs.model.Types.{Attribute}
 use Rattle.td_types.specs.code.Views.{type_view}
-use Rattle.td_value.specs.Values.{Val, Tuple}
+use Rattle.td_value.specs.model.Values.{Val, Tuple}
 use Rattle.std.specs.Prelude.{ℕ}
 
 -- an attribute with the values that a column of it has

@@ -1,25 +1,25 @@
 -- What the items of SUMMARIZE are of in the groups, as the code has it (this project's own).
 use Rattle.std.specs.Prelude.{◌≡◌, true, List, [], ◌∷◌, map}
 use Rattle.std.specs.Global.{Vec}
-use Rattle.td_algebra.specs.Columns.{NamedColumn}
-use Rattle.td_check.specs.OperatorTypes.{aggregate_type}
-use Rattle.td_check.specs.Scopes.{Scope}
-use Rattle.td_check.specs.StaticTypes.{type_of}
-use Rattle.td_eval.specs.AggregateValues.{Summand, aggregate_of, asked_of, group_values}
+use Rattle.td_algebra.specs.code.Columns.{NamedColumn}
+use Rattle.td_check.specs.model.OperatorTypes.{aggregate_type}
+use Rattle.td_check.specs.model.Scopes.{Scope}
+use Rattle.td_check.specs.model.StaticTypes.{type_of}
+use Rattle.td_eval.specs.model.AggregateValues.{Summand, aggregate_of, asked_of, group_values}
 use Rattle.td_eval.specs.code.NewColumns.{with_values}
-use Rattle.td_eval.specs.OperatorValues.{of_truth, value_of_type}
-use Rattle.td_eval.specs.TreeValues.{value_of}
-use Rattle.td_eval.specs.Worlds.{World}
-use Rattle.td_group.specs.Groups.{groups}
+use Rattle.td_eval.specs.model.OperatorValues.{of_truth, value_of_type}
+use Rattle.td_eval.specs.model.TreeValues.{value_of}
+use Rattle.td_eval.specs.model.Worlds.{World}
+use Rattle.td_group.specs.model.Groups.{groups}
 use Rattle.td_group.specs.declared.aggregates.Agg.{Agg}
 use Rattle.td_group.specs.declared.aggregates.Agg.TheVariants as asked
 use Rattle.td_tree.specs.declared.expression.Summary.{Summary}
 use Rattle.td_tree.specs.declared.expression.Summary.TheVariants as summaries
-use Rattle.td_tree.specs.Outcomes.{Outcome, Valued, gathered, with_value}
+use Rattle.td_tree.specs.model.Outcomes.{Outcome, Valued, gathered, with_value}
 use Rattle.td_tree.specs.code.TreeViews.{tree_view}
-use Rattle.td_types.specs.Types.{Attribute, Type'}
-use Rattle.td_types.specs.Types as types
-use Rattle.td_value.specs.Values.{Val, Relation, Tuple}
+use Rattle.td_types.specs.model.Types.{Attribute, Type'}
+use Rattle.td_types.specs.model.Types as types
+use Rattle.td_value.specs.model.Values.{Val, Relation, Tuple}
 
 -- ---- the items of the code
 

@@ -1,8 +1,8 @@
 //! The values of aggregates.
 ghost use Rattle.std.specs.Prelude.{◌≡◌, IfOk, List, map, true};
-ghost use Rattle.td_eval.specs.AggregateValues.{aggregate_of, asked_of, takes};
-ghost use Rattle.td_tree.specs.Outcomes.{Answers, Outcome, with_value};
-ghost use Rattle.td_value.specs.Values.{Val, boolean};
+ghost use Rattle.td_eval.specs.model.AggregateValues.{aggregate_of, asked_of, takes};
+ghost use Rattle.td_tree.specs.model.Outcomes.{Answers, Outcome, with_value};
+ghost use Rattle.td_value.specs.model.Values.{Val, boolean};
 
 use std::alloc::{AllocError, Global};
 use td_group::aggregates::{Agg, aggregate};

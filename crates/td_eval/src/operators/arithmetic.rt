@@ -1,7 +1,7 @@
 //! The values of operators between two numbers.
 ghost use Rattle.std.specs.Prelude.{ℤ};
-ghost use Rattle.td_eval.specs.OperatorValues.{on_number, operator_value};
-ghost use Rattle.td_tree.specs.Outcomes.{Answers, Valued};
+ghost use Rattle.td_eval.specs.model.OperatorValues.{on_number, operator_value};
+ghost use Rattle.td_tree.specs.model.Outcomes.{Answers, Valued};
 ghost use Rattle.td_tree.specs.declared.operator.Operator.TheVariants as operators;
 
 use td_tree::cause::Cause;

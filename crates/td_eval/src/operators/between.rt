@@ -1,7 +1,7 @@
 //! The values of operators between two operands.
-ghost use Rattle.td_eval.specs.OperatorValues.{operator_value};
-ghost use Rattle.td_tree.specs.Outcomes.{Answers, Outcome, with_both};
-ghost use Rattle.td_value.specs.Values.{Val};
+ghost use Rattle.td_eval.specs.model.OperatorValues.{operator_value};
+ghost use Rattle.td_tree.specs.model.Outcomes.{Answers, Outcome, with_both};
+ghost use Rattle.td_value.specs.model.Values.{Val};
 
 use crate::operators::arithmetic::{difference, product, quotient, sum};
 use crate::operators::relational::{

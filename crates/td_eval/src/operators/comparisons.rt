@@ -1,15 +1,16 @@
 //! The values of comparisons.
 ghost use Rattle.std.specs.Prelude.{◌≡◌, IfOk, Some, false};
 ghost use Rattle.std.specs.Ordering.{eq_by_cmp};
-ghost use Rattle.td_algebra.specs.Operators.{is_subset};
-ghost use Rattle.td_check.specs.OperatorTypes.{equality_type, same_heading, same_type};
-ghost use Rattle.td_eval.specs.OperatorValues.{at_most, comparison_value, less_or_equal};
-ghost use Rattle.td_eval.specs.OperatorValues.{less_than, membership_value};
-ghost use Rattle.td_tree.specs.Outcomes.{Answers, Outcome, Valued, value_if, with_both};
-ghost use Rattle.td_tree.specs.Outcomes.{named_cause, with_value};
+ghost use Rattle.td_algebra.specs.model.Operators.{is_subset};
+ghost use Rattle.td_check.specs.model.OperatorTypes.{equality_type, same_heading, same_type};
+ghost use Rattle.td_eval.specs.model.OperatorValues.{at_most, comparison_value, less_or_equal};
+ghost use Rattle.td_eval.specs.model.OperatorValues.{less_than, membership_value};
+ghost use Rattle.td_tree.specs.model.Outcomes.{Answers, Outcome, Valued, value_if, with_both};
+ghost use Rattle.td_tree.specs.model.Outcomes.{named_cause, with_value};
 ghost use Rattle.td_tree.specs.declared.cause.Cause.TheVariants as causes;
-ghost use Rattle.td_value.specs.Sets.{has};
-ghost use Rattle.td_value.specs.Values.{Val, boolean, heading_of, tuple_cmp, type_of, value_cmp};
+ghost use Rattle.td_value.specs.model.Sets.{has};
+ghost use Rattle.td_value.specs.model.Values.{Val, boolean, heading_of, tuple_cmp, type_of};
+ghost use Rattle.td_value.specs.model.Values.{value_cmp};
 
 use crate::operators::relational::fit;
 use std::alloc::{AllocError, Global};

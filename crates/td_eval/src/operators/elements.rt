@@ -1,14 +1,14 @@
 //! The values of tuples and of relations by their parts.
 ghost use Rattle.std.specs.Prelude.{IfOk, List, OnOk, map};
 ghost use Rattle.std.specs.List.{All};
-ghost use Rattle.td_eval.specs.OperatorValues.{element_of, headed_value, listed_value};
-ghost use Rattle.td_eval.specs.OperatorValues.{tuple_from};
-ghost use Rattle.td_tree.specs.Outcomes.{Answers, Outcome, gathered, with_both};
-ghost use Rattle.td_types.specs.Types.{Heading};
-ghost use Rattle.td_value.specs.Values.{IsTupleOf, Val, tuple_value};
+ghost use Rattle.td_eval.specs.model.OperatorValues.{element_of, headed_value, listed_value};
+ghost use Rattle.td_eval.specs.model.OperatorValues.{tuple_from};
+ghost use Rattle.td_tree.specs.model.Outcomes.{Answers, Outcome, gathered, with_both};
+ghost use Rattle.td_types.specs.model.Types.{Heading};
+ghost use Rattle.td_value.specs.model.Values.{IsTupleOf, Val, tuple_value};
 
-use crate::operators::asked::tuple_in;
 use crate::operators::relational::{as_value, fit};
+use crate::operators::requirements::tuple_in;
 use std::alloc::Global;
 use td_tree::cause::Cause;
 use td_tree::fault::Fault;

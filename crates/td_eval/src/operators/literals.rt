@@ -2,10 +2,10 @@
 ghost use Rattle.std.specs.Prelude.{FitsSigned};
 ghost use Rattle.std.specs.Int.{w64};
 ghost use Rattle.std.specs.Option.{SomeIff};
-ghost use Rattle.td_eval.specs.OperatorValues.{literal_value, signed_number};
-ghost use Rattle.td_tree.specs.Outcomes.{Answers};
+ghost use Rattle.td_eval.specs.model.OperatorValues.{literal_value, signed_number};
+ghost use Rattle.td_tree.specs.model.Outcomes.{Answers};
 ghost use Rattle.td_tree.specs.code.TreeViews.{literal_view};
-ghost use Rattle.td_tree.specs.Trees.{table_dee, table_dum};
+ghost use Rattle.td_tree.specs.model.Trees.{table_dee, table_dum};
 
 use crate::operators::relational::as_value;
 use std::alloc::Global;

@@ -1,7 +1,7 @@
 //! The values of operators that put attributes into one.
-ghost use Rattle.td_eval.specs.OperatorValues.{nested_names, of_relation};
-ghost use Rattle.td_group.specs.Nesting.{grouped_relation, wrapped_relation};
-ghost use Rattle.td_tree.specs.Outcomes.{Answers, with_value};
+ghost use Rattle.td_eval.specs.model.OperatorValues.{nested_names, of_relation};
+ghost use Rattle.td_group.specs.model.Nesting.{grouped_relation, wrapped_relation};
+ghost use Rattle.td_tree.specs.model.Outcomes.{Answers, with_value};
 ghost use Rattle.td_tree.specs.code.TreeViews.{attributes_view};
 
 use crate::operators::postfix::names_in;

@@ -2,15 +2,15 @@
 ghost use Rattle.std.specs.Prelude.{◌≡◌, option_map};
 ghost use Rattle.std.specs.List.{zip};
 ghost use Rattle.std.specs.Rc.{rc_str_bytes};
-ghost use Rattle.td_eval.specs.OperatorValues.{component_value, extracted_value, measure_value};
-ghost use Rattle.td_eval.specs.OperatorValues.{only_tuple, prefix_value};
-ghost use Rattle.td_tree.specs.Outcomes.{Answers};
+ghost use Rattle.td_eval.specs.model.OperatorValues.{component_value, extracted_value};
+ghost use Rattle.td_eval.specs.model.OperatorValues.{measure_value, only_tuple, prefix_value};
+ghost use Rattle.td_tree.specs.model.Outcomes.{Answers};
 ghost use Rattle.td_tree.specs.declared.operator.Prefix.TheVariants as prefixes;
-ghost use Rattle.td_types.specs.Types.{attribute_names};
+ghost use Rattle.td_types.specs.model.Types.{attribute_names};
 ghost use Rattle.td_types.specs.code.Views.{pairs_view};
-ghost use Rattle.td_value.specs.Values.{selected_value, value_at};
+ghost use Rattle.td_value.specs.model.Values.{selected_value, value_at};
 
-use crate::operators::asked::{relation_in, truth, tuple_in, value_or_cause};
+use crate::operators::requirements::{relation_in, truth, tuple_in, value_or_cause};
 use crate::operators::unnesting::closure_value;
 use std::alloc::Global;
 use std::rc::RcStr;

@@ -1,18 +1,18 @@
 //! The values of operators behind their operands.
 ghost use Rattle.std.specs.Prelude.{◌≡◌, IfOk, map};
-ghost use Rattle.td_algebra.specs.Operators.{projected_relation, renamed_relation};
-ghost use Rattle.td_check.specs.OperatorTypes.{renaming_pairs};
-ghost use Rattle.td_eval.specs.OperatorValues.{listed_names, postfix_value, projected_names};
-ghost use Rattle.td_eval.specs.OperatorValues.{relation_where};
-ghost use Rattle.td_tree.specs.Outcomes.{Answers};
+ghost use Rattle.td_algebra.specs.model.Operators.{projected_relation, renamed_relation};
+ghost use Rattle.td_check.specs.model.OperatorTypes.{renaming_pairs};
+ghost use Rattle.td_eval.specs.model.OperatorValues.{listed_names, postfix_value, projected_names};
+ghost use Rattle.td_eval.specs.model.OperatorValues.{relation_where};
+ghost use Rattle.td_tree.specs.model.Outcomes.{Answers};
 ghost use Rattle.td_tree.specs.code.TreeViews.{attributes_view, postfix_view, renaming_view};
-ghost use Rattle.td_tree.specs.Trees.{all_but, project};
-ghost use Rattle.td_types.specs.Headings.{can_rename, has_projection};
-ghost use Rattle.td_types.specs.Types.{attribute_names};
+ghost use Rattle.td_tree.specs.model.Trees.{all_but, project};
+ghost use Rattle.td_types.specs.model.Headings.{can_rename, has_projection};
+ghost use Rattle.td_types.specs.model.Types.{attribute_names};
 
-use crate::operators::asked::relation_in;
 use crate::operators::nesting::{grouped_value, wrapped_value};
 use crate::operators::relational::{as_value, fit};
+use crate::operators::requirements::relation_in;
 use crate::operators::unnesting::{ungrouped_value, unwrapped_value};
 use std::alloc::{AllocError, Global};
 use td_algebra::projection::project;

@@ -1,12 +1,12 @@
 //! The values of operators between two relations.
 ghost use Rattle.std.specs.Prelude.{◌≡◌, IfOk, IsTrue, OnOk};
-ghost use Rattle.td_eval.specs.OperatorValues.{of_relation, on_relation, operator_value};
-ghost use Rattle.td_tree.specs.Outcomes.{Answers, Valued, value_if};
+ghost use Rattle.td_eval.specs.model.OperatorValues.{of_relation, on_relation, operator_value};
+ghost use Rattle.td_tree.specs.model.Outcomes.{Answers, Valued, value_if};
 ghost use Rattle.td_tree.specs.declared.cause.Cause.TheVariants as causes;
 ghost use Rattle.td_tree.specs.declared.operator.Operator.TheVariants as operators;
-ghost use Rattle.td_value.specs.Values.{Relation};
+ghost use Rattle.td_value.specs.model.Values.{Relation};
 
-use crate::operators::asked::relation_in;
+use crate::operators::requirements::relation_in;
 use std::alloc::{AllocError, Global};
 use td_algebra::joins::{compose, join, times};
 use td_algebra::semijoins::{matching, not_matching};

@@ -1,12 +1,11 @@
 //! The values of user types' selectors.
 ghost use Rattle.std.specs.Prelude.{◌≡◌, Bool, IfOk};
 ghost use Rattle.std.specs.List.{zip};
-ghost use Rattle.td_tree.specs.Outcomes.{Answers, Outcome, value_if, with_value};
+ghost use Rattle.td_tree.specs.model.Outcomes.{Answers, Outcome, value_if, with_value};
 ghost use Rattle.td_tree.specs.declared.cause.Cause.TheVariants as causes;
-ghost use Rattle.td_types.specs.Types.{attribute_names};
+ghost use Rattle.td_types.specs.model.Types.{attribute_names};
 ghost use Rattle.td_types.specs.code.Views.{pairs_view};
-ghost use Rattle.td_value.specs.Values.{Val, made_tuple, selected_value};
-ghost use Rattle.td_value.specs.code.Views.{user_view};
+ghost use Rattle.td_value.specs.model.Values.{Val, made_tuple, selected_value, user_view};
 
 use std::alloc::{AllocError, Global};
 use td_tree::cause::Cause;

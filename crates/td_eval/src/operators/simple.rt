@@ -1,7 +1,7 @@
 //! The values of operators between two truth values, and between two texts.
 ghost use Rattle.std.specs.Prelude.{ℕ, Bool, List};
-ghost use Rattle.td_eval.specs.OperatorValues.{on_text, on_truth, operator_value};
-ghost use Rattle.td_tree.specs.Outcomes.{Answers, Valued};
+ghost use Rattle.td_eval.specs.model.OperatorValues.{on_text, on_truth, operator_value};
+ghost use Rattle.td_tree.specs.model.Outcomes.{Answers, Valued};
 ghost use Rattle.td_tree.specs.declared.operator.Operator.TheVariants as operators;
 
 use std::alloc::Global;

@@ -1,31 +1,32 @@
 //! The values of SUMMARIZE, by what its items are of in the groups.
 ghost use Rattle.std.specs.Prelude.{◌≡◌, List, length, map, reverse};
-ghost use Rattle.td_algebra.specs.Columns.{columns_view};
-ghost use Rattle.td_check.specs.OperatorTypes.{aggregate_type};
-ghost use Rattle.td_check.specs.Scopes.{entered_with};
-ghost use Rattle.td_eval.specs.AggregateValues.{Summand, summary_attributes, summary_in};
-ghost use Rattle.td_eval.specs.OperatorValues.{extended_value};
-ghost use Rattle.td_eval.specs.code.Sights.{IsSight, seen_by};
+ghost use Rattle.td_algebra.specs.code.Columns.{columns_view};
+ghost use Rattle.td_check.specs.model.OperatorTypes.{aggregate_type};
+ghost use Rattle.td_check.specs.model.Scopes.{entered_with};
+ghost use Rattle.td_eval.specs.model.AggregateValues.{Summand, summary_attributes, summary_in};
+ghost use Rattle.td_eval.specs.model.OperatorValues.{extended_value};
+ghost use Rattle.td_eval.specs.code.LentWorlds.{IsLentWorld, seen_by};
 ghost use Rattle.td_eval.specs.code.Totals.{AreTotalsFor, asked_by, attribute_found, total_columns};
 ghost use Rattle.td_eval.specs.code.Totals.{total_of};
 ghost use Rattle.td_eval.specs.code.Totals.{total_values, total_view};
-ghost use Rattle.td_eval.specs.TreeValues.{items_in_tuples};
-ghost use Rattle.td_eval.specs.Worlds.{with_tuples};
-ghost use Rattle.td_group.specs.Groups.{groups};
-ghost use Rattle.td_tree.specs.Outcomes.{Answers, Outcome, Valued, gathered, value_if, with_value};
+ghost use Rattle.td_eval.specs.model.TreeValues.{items_in_tuples};
+ghost use Rattle.td_eval.specs.model.Worlds.{with_tuples};
+ghost use Rattle.td_group.specs.model.Groups.{groups};
+ghost use Rattle.td_tree.specs.model.Outcomes.{Answers, Outcome, Valued, gathered, value_if};
+ghost use Rattle.td_tree.specs.model.Outcomes.{with_value};
 ghost use Rattle.td_tree.specs.code.TreeViews.{summaries_view};
 ghost use Rattle.td_tree.specs.declared.cause.Cause.TheVariants as causes;
-ghost use Rattle.td_types.specs.Headings.{is_part};
+ghost use Rattle.td_types.specs.model.Headings.{is_part};
 ghost use Rattle.td_types.specs.code.Pairs.{pair_view};
 ghost use Rattle.td_types.specs.code.Views.{pairs_view, type_view};
-ghost use Rattle.td_value.specs.Values.{Relation, Val};
+ghost use Rattle.td_value.specs.model.Values.{Relation, Val};
 
 use crate::extension::ask_new;
+use crate::lent_world::LentWorld;
 use crate::operators::aggregates::{aggregate_of, asked_of};
 use crate::operators::relational::fit;
 use crate::operators::tuplewise::extension_value;
 use crate::rows::{named_column, value_of_its_type};
-use crate::sight::Sight;
 use std::alloc::Global;
 use td_algebra::extension::Column;
 use td_body::body::Body;
@@ -98,19 +99,19 @@ pub fn item_attributes(
 
 /// The attributes that items add, with their types where tuples of a relation are in scope.
 fn new_attributes<B: Body>(
-    sight: &Sight<'_, B>,
+    lent: &LentWorld<'_, B>,
     tuples: &[Tuple],
     rel: &Rel,
     items: &[Summary],
 ) -> Result<Vec<(Name, Ty)>, Fault>
-    requires { IsSight sight.now }
+    requires { IsLentWorld lent.now }
     ensures { Answers (λ xs. pairs_view xs.items) result
         (summary_attributes (entered_with rel.now.heading
-        (with_tuples (seen_by sight.now).scope (reverse tuples.now))) (summaries_view items.now)) }
+        (with_tuples (seen_by lent.now).scope (reverse tuples.now))) (summaries_view items.now)) }
 {
-    let mut scope = sight.scope(tuples)?;
+    let mut scope = lent.scope(tuples)?;
     scope.enter(rel.heading().try_clone()?)?;
-    item_attributes(sight.alloc, &scope, items)
+    item_attributes(lent.alloc, &scope, items)
 }
 
 // ---- their values
@@ -199,24 +200,24 @@ pub fn summary_by(
 
 /// The tuples of PER with what the items give of their groups.
 pub(crate) fn extended_per<B: Body>(
-    sight: &Sight<'_, B>,
+    lent: &LentWorld<'_, B>,
     tuples: &[Tuple],
     rel: &Rel,
     per: &Rel,
     items: &[Summary],
     totals: &[(Agg, Vec<Vec<Value>>)],
 ) -> Result<Value, Fault>
-    requires sight { IsSight sight.now }
+    requires lent { IsLentWorld lent.now }
     requires totals { gathered (map (total_of (groups rel.now per.now))
-        (items_in_tuples (seen_by sight.now) (reverse tuples.now) (summaries_view items.now)))
+        (items_in_tuples (seen_by lent.now) (reverse tuples.now) (summaries_view items.now)))
         ≡ Valued (map total_view totals.now) }
     ensures { Answers (λ v. v) result (extended_value
         (summary_attributes (entered_with rel.now.heading
-        (with_tuples (seen_by sight.now).scope (reverse tuples.now))) (summaries_view items.now))
+        (with_tuples (seen_by lent.now).scope (reverse tuples.now))) (summaries_view items.now))
         (map (summary_in rel.now per.now)
-        (items_in_tuples (seen_by sight.now) (reverse tuples.now) (summaries_view items.now)))
+        (items_in_tuples (seen_by lent.now) (reverse tuples.now) (summaries_view items.now)))
         per.now) }
 {
-    let attributes = new_attributes(sight, tuples, rel, items)?;
-    summary_by(sight.alloc, per, &attributes, totals)
+    let attributes = new_attributes(lent, tuples, rel, items)?;
+    summary_by(lent.alloc, per, &attributes, totals)
 }

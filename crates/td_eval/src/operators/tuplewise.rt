@@ -1,13 +1,13 @@
 //! The values of operators that are applied to each tuple of a relation.
 ghost use Rattle.std.specs.Prelude.{◌≡◌, IfOk, IsTrue, List, length, map};
-ghost use Rattle.td_algebra.specs.Columns.{AreColumns, AreColumnsOf, column_attributes};
-ghost use Rattle.td_algebra.specs.Columns.{columns_view};
-ghost use Rattle.td_algebra.specs.Operators.{Addition, extended_relation};
-ghost use Rattle.td_eval.specs.OperatorValues.{of_relation, restricted_value, truth_value};
-ghost use Rattle.td_tree.specs.Outcomes.{Answers, Outcome, gathered};
-ghost use Rattle.td_types.specs.Headings.{are_distinct, have_no_common};
-ghost use Rattle.td_types.specs.Types.{attribute_names};
-ghost use Rattle.td_value.specs.Values.{Tuple, Val};
+ghost use Rattle.td_algebra.specs.code.Columns.{AreColumns, AreColumnsOf, column_attributes};
+ghost use Rattle.td_algebra.specs.code.Columns.{columns_view};
+ghost use Rattle.td_algebra.specs.model.Operators.{Addition, extended_relation};
+ghost use Rattle.td_eval.specs.model.OperatorValues.{of_relation, restricted_value, truth_value};
+ghost use Rattle.td_tree.specs.model.Outcomes.{Answers, Outcome, gathered};
+ghost use Rattle.td_types.specs.model.Headings.{are_distinct, have_no_common};
+ghost use Rattle.td_types.specs.model.Types.{attribute_names};
+ghost use Rattle.td_value.specs.model.Values.{Tuple, Val};
 
 use crate::operators::relational::as_value;
 use std::alloc::Global;

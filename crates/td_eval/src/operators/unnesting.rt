@@ -1,10 +1,10 @@
 //! The values of operators that put what is inside an attribute in its place, and of closures.
-ghost use Rattle.td_check.specs.OperatorTypes.{attribute_type, over_relation, over_tuple};
-ghost use Rattle.td_eval.specs.OperatorValues.{relation_where};
-ghost use Rattle.td_group.specs.Closure.{closure};
-ghost use Rattle.td_group.specs.Nesting.{can_unnest, unnested_relation};
-ghost use Rattle.td_tree.specs.Outcomes.{Answers, Valued, with_value};
-ghost use Rattle.td_types.specs.Headings.{is_closable};
+ghost use Rattle.td_check.specs.model.OperatorTypes.{attribute_type, over_relation, over_tuple};
+ghost use Rattle.td_eval.specs.model.OperatorValues.{relation_where};
+ghost use Rattle.td_group.specs.model.Closure.{closure};
+ghost use Rattle.td_group.specs.model.Nesting.{can_unnest, unnested_relation};
+ghost use Rattle.td_tree.specs.model.Outcomes.{Answers, Valued, with_value};
+ghost use Rattle.td_types.specs.model.Headings.{is_closable};
 
 use crate::operators::relational::{as_value, fit};
 use std::alloc::Global;

@@ -5,10 +5,10 @@ use Rattle.std.specs.HashMap.{HashMap, get}
 use Rattle.std.specs.HashSet.{HashSet, contains}
 use Rattle.std.specs.List.{Contains, flat_map}
 use Rattle.std.specs.Ordering.{eq_by_cmp}
-use Rattle.td_value.specs.Sets.{has}
-use Rattle.td_value.specs.Values.{Val, Tuple, value_cmp}
+use Rattle.td_value.specs.model.Sets.{has}
+use Rattle.td_value.specs.model.Values.{Val, Tuple, value_cmp}
 use Rattle.td_value.specs.code.Views.{tuple_view, values_of}
-use Rattle.td_group.specs.Groups.{items_there}
+use Rattle.td_group.specs.model.Groups.{items_there}
 
 -- two values, where there are two
 abbrev pub two_of : List Val → Option (Val × Val)

@@ -4,13 +4,13 @@ use Rattle.std.specs.Prelude.{ℕ, Bool, true, false, List, [], ◌∷◌, Optio
 use Rattle.td_tree.specs.declared.keyword.Keyword.TheVariants as k
 use Rattle.td_tree.specs.declared.token.Sign.{Sign}
 use Rattle.td_tree.specs.declared.token.Sign.TheVariants as signs
-use Rattle.td_tree.specs.Lexemes.{Lexeme, keyword, sign}
-use Rattle.td_tree.specs.Lexemes as lexeme
-use Rattle.td_tree.specs.Numbers.{numeral_limit}
-use Rattle.td_tree.specs.Trees as tree
-use Rattle.td_tree.specs.Trees.{Literal}
-use Rattle.td_parse.specs.ReadingOperators.{with_rest}
-use Rattle.td_parse.specs.ReadingSteps.{either, ReadOf, expect}
+use Rattle.td_tree.specs.model.Lexemes.{Lexeme, keyword, sign}
+use Rattle.td_tree.specs.model.Lexemes as lexeme
+use Rattle.td_tree.specs.model.Numbers.{numeral_limit}
+use Rattle.td_tree.specs.model.Trees as tree
+use Rattle.td_tree.specs.model.Trees.{Literal}
+use Rattle.td_parse.specs.code.ReadingOperators.{with_rest}
+use Rattle.td_parse.specs.code.ReadingSteps.{either, ReadOf, expect}
 
 -- ---- what stands behind
 

@@ -5,8 +5,8 @@ use denote.Ref.{MutBor}
 use Rattle.td_tree.specs.declared.expression.Expr.{Expr}
 use Rattle.td_tree.specs.declared.fault.Fault.{Fault}
 use Rattle.td_tree.specs.declared.operator.Level.{Level}
-use Rattle.td_tree.specs.Lexemes.{Lexeme}
-use Rattle.td_parse.specs.Reading.{read}
+use Rattle.td_tree.specs.model.Lexemes.{Lexeme}
+use Rattle.td_parse.specs.code.Reading.{read}
 use Rattle.td_tree.specs.code.TreeViews.{tree_view}
 use Rattle.td_parse.specs.code.Parsing.{Moves}
 

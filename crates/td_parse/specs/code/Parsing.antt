@@ -1,21 +1,16 @@
 -- What the parser's functions return and leave, by what reading gives of the lexemes before them.
 use Rattle.std.specs.Prelude.{◌≡◌, ℕ, Bool, true, false, List, [], ◌∷◌, drop, Option, Some, None, Result, Ok, Err, ⊤}
-use Rattle.std.specs.List.{list_any}
 use Rattle.td_tree.specs.declared.cause.Cause.TheVariants as causes
 use Rattle.td_tree.specs.declared.fault.Fault.{Fault}
 use Rattle.td_tree.specs.declared.fault.Fault.TheVariants as faults
 use Rattle.td_tree.specs.declared.keyword.Keyword.{Keyword}
 use Rattle.td_tree.specs.declared.token.Kind.{Kind}
 use Rattle.td_tree.specs.declared.token.Kind.TheVariants as kinds
-use Rattle.td_tree.specs.Lexemes.{Lexeme, keyword, sign, name, component, number, text, bad}
-use Rattle.td_tree.specs.Numbers.{decimal_value}
-use Rattle.td_tree.specs.Outcomes.{Answers, Only, Outcome, Refused, Valued}
-use Rattle.td_tree.specs.StatementGrammar.{StatementSpelling}
-use Rattle.td_tree.specs.Trees as trees
-use Rattle.td_parse.specs.ReadingSteps.{ReadOf}
-use Rattle.td_tree.specs.Statements.{PlacedToken}
-use Rattle.td_tree.specs.TextTokens.{content}
-use Rattle.td_tree.specs.TokenLexemes.{lexemes}
+use Rattle.td_tree.specs.model.Lexemes.{Lexeme, keyword, sign, name, component, number, text, bad}
+use Rattle.td_tree.specs.model.Numbers.{decimal_value}
+use Rattle.td_tree.specs.model.Outcomes.{Answers, Only, Outcome, Refused, Valued}
+use Rattle.td_parse.specs.code.ReadingSteps.{ReadOf}
+use Rattle.td_tree.specs.model.TextTokens.{content}
 
 -- ---- tokens
 
@@ -35,6 +30,11 @@ seen_as kinds.Bad t = bad
 abbrev pub Takes : List Lexeme → Option (Kind × List ℕ) → List Lexeme → Type 0
 Takes old (Some token) new = old ≡ seen_as token.0 token.1 ∷ new
 Takes old None new = (old ≡ []) × (new ≡ old)
+
+-- the first token is of this kind, or there is none
+abbrev pub Sees : List Lexeme → Option Kind → Type 0
+Sees now (Some kind) = (text : List ℕ) × (later : List Lexeme) × (now ≡ seen_as kind text ∷ later)
+Sees now None = now ≡ []
 
 -- no reserved word comes first
 abbrev pub begins_otherwise : List Lexeme → Bool
@@ -92,38 +92,3 @@ or_syntax None = Refused (Only causes.Syntax)
 -- what a function over a cursor returned and left is what reading gives, unless memory ran out
 abbrev pub Moves : {X Y : Type 0} → (X → Y) → Result X Fault → List Lexeme → ReadOf Y → Type 0
 Moves view r new read = Answers (λ x. (view x, new)) r (or_syntax read)
-
-abbrev pub is_bad : Kind → Bool
-is_bad kinds.Bad = true
-is_bad _ = false
-
--- one of the tokens is bad
-abbrev pub has_bad : List PlacedToken → Bool
-has_bad = list_any (λ (token : PlacedToken). is_bad token.kind)
-
--- the grammar spells this statement by these lexemes, and no other
-abbrev pub SpellsOnly : List Lexeme → trees.Statement → Type 0
-SpellsOnly xs s = StatementSpelling xs s × ((t : trees.Statement) → StatementSpelling xs t → t ≡ s)
-
--- the grammar spells no statement by these lexemes
-abbrev pub SpellsNone : List Lexeme → Type 0
-SpellsNone xs = (t : trees.Statement) → StatementSpelling xs t → ⊥
-
--- what tokens mean as a statement, which is refused by one cause alone (own)
-pub data Parsed (tokens : List PlacedToken) : Outcome trees.Statement → Type 0 where
-  -- one of them is bad
-  bad_token : has_bad tokens ≡ true → Parsed tokens (Refused (Only causes.Scan))
-  -- the grammar spells nothing by them
-  nothing_spelled : has_bad tokens ≡ false → SpellsNone (lexemes tokens)
-      → Parsed tokens (Refused (Only causes.Syntax))
-  -- the grammar spells this statement by them, and no other
-  statement_spelled : {s : trees.Statement} → has_bad tokens ≡ false → SpellsOnly (lexemes tokens) s
-      → Parsed tokens (Valued s)
-
--- ---- laws
-
--- tokens mean something, and one thing alone
-abbrev pub TokensHaveOneMeaning : Type 0
-TokensHaveOneMeaning = (tokens : List PlacedToken)
-    → (o : Outcome trees.Statement) × Parsed tokens o
-    × ((p : Outcome trees.Statement) → Parsed tokens p → p ≡ o)

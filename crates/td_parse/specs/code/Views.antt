@@ -4,9 +4,9 @@ use Rattle.td_tree.specs.declared.expression.NamedExpr.{NamedExpr}
 use Rattle.td_tree.specs.declared.expression.Summary.{Summary}
 use Rattle.td_tree.specs.declared.expression.Summary.TheVariants as s
 use Rattle.td_tree.specs.declared.type_tree.AttributeTree.{AttributeTree}
-use Rattle.td_parse.specs.Reading.{SummaryItem, count_item, sum_item}
+use Rattle.td_parse.specs.code.Reading.{SummaryItem, count_item, sum_item}
 use Rattle.td_tree.specs.code.TreeViews.{tree_view, type_tree_view}
-use Rattle.td_tree.specs.Trees.{Text, Tree, TypeTree}
+use Rattle.td_tree.specs.model.Trees.{Text, Tree, TypeTree}
 
 -- a name and its type
 abbrev pub attribute_tree_view : AttributeTree → Text × TypeTree

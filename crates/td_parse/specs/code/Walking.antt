@@ -8,16 +8,16 @@ use Rattle.td_tree.specs.declared.operator.Level.TheVariants as levels
 use Rattle.td_tree.specs.declared.operator.Operator.TheVariants as operators
 use Rattle.td_tree.specs.declared.operator.Prefix.TheVariants as prefixes
 use Rattle.td_tree.specs.declared.token.Sign.{Sign}
-use Rattle.td_tree.specs.Grammar.{tighter}
-use Rattle.td_tree.specs.Lexemes.{Lexeme, keyword, sign}
-use Rattle.td_tree.specs.Trees as tree
-use Rattle.td_tree.specs.Trees.{Tree}
+use Rattle.td_tree.specs.model.Grammar.{tighter}
+use Rattle.td_tree.specs.model.Lexemes.{Lexeme, keyword, sign}
+use Rattle.td_tree.specs.model.Trees as tree
+use Rattle.td_tree.specs.model.Trees.{Tree}
 use Rattle.td_parse.specs.declared.operators.Infix.{Infix}
 use Rattle.td_parse.specs.declared.operators.Infix.TheVariants as infixes
 use Rattle.td_parse.specs.declared.operators.Link.TheVariants as links
-use Rattle.td_parse.specs.Reading.{Read, prefix_expression, fits, unary_expression}
-use Rattle.td_parse.specs.ReadingOperators.{comparison_of_sign, comparison_of_word, link_level, link_of_sign, link_of_word, linked_tree, with_rest}
-use Rattle.td_parse.specs.ReadingSteps.{◌>>=◌, either, ReadOf, expect}
+use Rattle.td_parse.specs.code.Reading.{Read, prefix_expression, fits, unary_expression}
+use Rattle.td_parse.specs.code.ReadingOperators.{comparison_of_sign, comparison_of_word, link_level, link_of_sign, link_of_word, linked_tree, with_rest}
+use Rattle.td_parse.specs.code.ReadingSteps.{◌>>=◌, either, ReadOf, expect}
 
 -- how tightly a level binds: more than each looser one
 abbrev pub tightness : Level → ℕ

@@ -1,19 +1,19 @@
 -- What comes of putting tuples into slots of their own, one after the other.
 use Rattle.std.specs.Prelude.{◌≡◌, ℕ, List, Option, Result, Ok, Err, ⊤}
-use Rattle.td_eval.specs.OperatorValues.{on_tuple}
-use Rattle.td_eval.specs.Worlds.{World}
+use Rattle.td_eval.specs.model.OperatorValues.{on_tuple}
+use Rattle.td_eval.specs.model.Worlds.{World}
 use Rattle.td_plan.specs.declared.plan.step.Step.{Step}
 use Rattle.td_plan.specs.declared.running.hand.Inside.{Inside}
 use Rattle.td_plan.specs.declared.running.memo.Memo.{Memo}
-use Rattle.td_plan.specs.Plans.{PlanTree, PlanTrees, Slots, bound, plan_value, plan_where_bound, slots_before, with_slot}
+use Rattle.td_plan.specs.code.Plans.{PlanTree, PlanTrees, Slots, bound, plan_value, plan_where_bound, slots_before, with_slot}
 use Rattle.td_plan.specs.code.Hands.{slots_in, slots_inside}
 use Rattle.td_plan.specs.code.Memos.{AgreeBelow, AreWithinReach, IsMemo, Parts}
 use Rattle.td_plan.specs.code.QuickInside.{IsMemoInside, value_inside}
 use Rattle.td_plan.specs.code.Runs.{step_value}
 use Rattle.td_tree.specs.declared.fault.Fault.{Fault}
-use Rattle.td_tree.specs.Outcomes.{Answers, Outcome, with_value}
+use Rattle.td_tree.specs.model.Outcomes.{Answers, Outcome, with_value}
 use Rattle.td_value.specs.code.Views.{values_of}
-use Rattle.td_value.specs.Values.{Tuple, Val}
+use Rattle.td_value.specs.model.Values.{Tuple, Val}
 
 -- the outcome of what goes on where the tuple that a step has is in the slot
 abbrev pub where_in_slot : World → Slots → ℕ → Step → (Slots → Outcome Val) → Outcome Val

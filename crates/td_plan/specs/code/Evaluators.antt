@@ -1,20 +1,20 @@
 -- What evaluators need of what is kept, and what they leave kept (this project's own).
 use Rattle.std.specs.Borrow.{Bor, MutBor}
 use Rattle.std.specs.Prelude.{ℕ, List, Option, Result, max, suc}
-use Rattle.td_eval.specs.Worlds.{World}
+use Rattle.td_eval.specs.model.Worlds.{World}
 use Rattle.td_plan.specs.declared.plan.step.Step.{Step}
 use Rattle.td_plan.specs.declared.running.evaluator.Evaluator.{Evaluator}
 use Rattle.td_plan.specs.declared.running.hand.Hand.{Hand}
 use Rattle.td_plan.specs.declared.running.hand.Inside.{Inside}
 use Rattle.td_plan.specs.declared.running.memo.Memo.{Memo}
-use Rattle.td_plan.specs.Plans.{PlanTree, Slots, plan_value}
+use Rattle.td_plan.specs.code.Plans.{PlanTree, Slots, plan_value}
 use Rattle.td_plan.specs.code.Hands.{slots_in, slots_of}
 use Rattle.td_plan.specs.code.Memos.{AreSound, IsMemo, IsReady, IsReadyBelow, IsSound, Keeps, KeepsBelow, Parts}
 use Rattle.td_plan.specs.code.StepHeights.{step_height, steps_height}
 use Rattle.td_plan.specs.code.ValuesBelow.{ValuesBelow}
 use Rattle.td_tree.specs.declared.fault.Fault.{Fault}
-use Rattle.td_tree.specs.Outcomes.{Answers}
-use Rattle.td_value.specs.Values.{Tuple, Val}
+use Rattle.td_tree.specs.model.Outcomes.{Answers}
+use Rattle.td_value.specs.model.Values.{Tuple, Val}
 
 -- ---- heights above those of steps
 

@@ -2,21 +2,21 @@
 use Rattle.std.specs.Borrow.{Bor}
 use Rattle.std.specs.Prelude.{List, [], Option, Some, None}
 use Rattle.std.specs.List.{AllByRecursion, slice_get}
-use Rattle.td_eval.specs.code.Sights.{world_in}
-use Rattle.td_eval.specs.Worlds.{World, known_outcome}
+use Rattle.td_eval.specs.code.LentWorlds.{world_in}
+use Rattle.td_eval.specs.model.Worlds.{World, known_outcome}
 use Rattle.td_plan.specs.declared.running.hand.Hand.{Hand}
 use Rattle.td_plan.specs.declared.running.hand.Inside.{Inside}
-use Rattle.td_plan.specs.declared.running.surroundings.Surroundings.{Surroundings}
-use Rattle.td_plan.specs.declared.running.surroundings.ValuedRelvar.{ValuedRelvar}
-use Rattle.td_plan.specs.Plans.{Slots, with_slot}
-use Rattle.td_tree.specs.Outcomes.{Answers}
+use Rattle.td_plan.specs.declared.running.plan_world.PlanWorld.{PlanWorld}
+use Rattle.td_plan.specs.declared.running.plan_world.ValuedRelvar.{ValuedRelvar}
+use Rattle.td_plan.specs.code.Plans.{Slots, with_slot}
+use Rattle.td_tree.specs.model.Outcomes.{Answers}
 use Rattle.td_value.specs.code.Views.{values_of}
-use Rattle.td_value.specs.Values.{Tuple, Val}
+use Rattle.td_value.specs.model.Values.{Tuple, Val}
 
 -- ---- what a plan is run in
 
 -- the world of the database
-abbrev pub world_around : {B : Type 0} → Surroundings B → World
+abbrev pub world_around : {B : Type 0} → PlanWorld B → World
 world_around around = world_in around.env.now
 
 -- the answer that is kept for a virtual relvar is that of its outcome in the world
@@ -27,8 +27,8 @@ IsValued w r = Answers (λ v. v) r.answer (known_outcome (w.relvar r.name))
 abbrev pub AreValued : World → List ValuedRelvar → Type 0
 AreValued w = AllByRecursion (IsValued w)
 
-abbrev pub AreSurroundings : {B : Type 0} → Surroundings B → Type 0
-AreSurroundings around = AreValued (world_around around) around.valued.now
+abbrev pub IsPlanWorld : {B : Type 0} → PlanWorld B → Type 0
+IsPlanWorld around = AreValued (world_around around) around.valued.now
 
 -- ---- tuples in scope
 

@@ -4,21 +4,21 @@ use Rattle.std.specs.Prelude.{◌≡◌, ◌<◌, ℕ, ℤ, Bool, List, [], ◌�
 use Rattle.std.specs.declared.cmp.Ordering.TheVariants.{Less}
 use Rattle.std.specs.Ordering.{int_cmp}
 use Rattle.std.specs.List.{zip}
-use Rattle.td_eval.specs.OperatorValues.{comparison_value, tuple_from}
-use Rattle.td_eval.specs.Worlds.{World}
+use Rattle.td_eval.specs.model.OperatorValues.{comparison_value, tuple_from}
+use Rattle.td_eval.specs.model.Worlds.{World}
 use Rattle.td_plan.specs.declared.plan.step.Step.{Step}
 use Rattle.td_plan.specs.declared.running.hand.Batch.{Batch}
 use Rattle.td_plan.specs.declared.running.hand.Inside.{Inside}
 use Rattle.td_plan.specs.declared.running.memo.Memo.{Memo}
-use Rattle.td_plan.specs.Plans.{Slots}
+use Rattle.td_plan.specs.code.Plans.{Slots}
 use Rattle.td_plan.specs.code.Hands.{slots_inside}
 use Rattle.td_plan.specs.code.Memos.{AreSound, IsMemo, Parts}
 use Rattle.td_plan.specs.code.Quick.{AreQuick}
 use Rattle.td_plan.specs.code.QuickInside.{IsMemoInside}
 use Rattle.td_plan.specs.code.Runs.{step_values}
 use Rattle.td_tree.specs.declared.operator.Comparison.TheVariants as comparisons
-use Rattle.td_tree.specs.Outcomes.{Outcome, Valued, gathered, with_value}
-use Rattle.td_value.specs.Values.{Relation, Tuple, Val, boolean, relation_value, tuple_value}
+use Rattle.td_tree.specs.model.Outcomes.{Outcome, Valued, gathered, with_value}
+use Rattle.td_value.specs.model.Values.{Relation, Tuple, Val, boolean, relation_value, tuple_value}
 
 -- the tuple that gives the names the values of the parts
 abbrev pub tuple_in_slots : World → Slots → List (List ℕ) → List Step → Outcome Val

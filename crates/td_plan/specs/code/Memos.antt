@@ -1,14 +1,14 @@
 -- What is kept of the parts of a plan while it is run.
 use Rattle.std.specs.Prelude.{◌≡◌, ◌<◌, ◌≤◌, ◌⊎◌, ℕ, List, [], ◌∷◌, Option, Some, None, ⊤}
 use Rattle.std.specs.List.{Contains, slice_get}
-use Rattle.td_eval.specs.Worlds.{World}
+use Rattle.td_eval.specs.model.Worlds.{World}
 use Rattle.td_plan.specs.declared.running.memo.Kept.{Kept}
 use Rattle.td_plan.specs.declared.running.memo.Memo.{Memo}
 use Rattle.td_plan.specs.declared.plan.step.Step.{Step, Row_of-Step, end_of-Step, more_of-Step}
 use Rattle.td_plan.specs.declared.plan.step.Step.TheVariants as p
-use Rattle.td_plan.specs.Plans.{PlanTree, PlanTrees, Slots, plan_value, plan_values}
+use Rattle.td_plan.specs.code.Plans.{PlanTree, PlanTrees, Slots, plan_value, plan_values}
 use Rattle.td_plan.specs.code.StepViews.{step_view, steps_row}
-use Rattle.td_tree.specs.Outcomes.{Answers}
+use Rattle.td_tree.specs.model.Outcomes.{Answers}
 
 -- ---- what plans name
 

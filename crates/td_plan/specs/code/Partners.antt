@@ -1,17 +1,17 @@
 -- Tuples of a relation that have partners in another, and what operators ask of them (this project's own).
 use Rattle.std.specs.Prelude.{◌≡◌, ℕ, Bool, not, List, IsTrue, length}
 use Rattle.std.specs.List.{list_all, list_any}
-use Rattle.td_algebra.specs.Operators.{restriction}
-use Rattle.td_eval.specs.OperatorValues.{of_relation, of_truth}
-use Rattle.td_eval.specs.Worlds.{World}
+use Rattle.td_algebra.specs.model.Operators.{restriction}
+use Rattle.td_eval.specs.model.OperatorValues.{of_relation, of_truth}
+use Rattle.td_eval.specs.model.Worlds.{World}
 use Rattle.td_plan.specs.declared.running.partners.Asked.{Asked}
 use Rattle.td_plan.specs.declared.running.partners.Asked.TheVariants as asked
-use Rattle.td_plan.specs.Plans.{Dyadic, PlanTree, Slots, dyadic_value, plan_value}
-use Rattle.td_tree.specs.Outcomes.{Outcome, Valued, with_value}
-use Rattle.td_types.specs.Headings.{has_attributes, projection}
-use Rattle.td_types.specs.Types.{Heading}
-use Rattle.td_value.specs.Agreement.{agree_on}
-use Rattle.td_value.specs.Values.{Relation, Tuple, Val}
+use Rattle.td_plan.specs.code.Plans.{Dyadic, PlanTree, Slots, dyadic_value, plan_value}
+use Rattle.td_tree.specs.model.Outcomes.{Outcome, Valued, with_value}
+use Rattle.td_types.specs.model.Headings.{has_attributes, projection}
+use Rattle.td_types.specs.model.Types.{Heading}
+use Rattle.td_value.specs.model.Agreement.{agree_on}
+use Rattle.td_value.specs.model.Values.{Relation, Tuple, Val}
 
 -- whether a tuple agrees on the names with a tuple of the relation
 abbrev pub has_partner : List (List ℕ) → Relation → Tuple → Bool

@@ -1,6 +1,6 @@
 -- What the plans of the code stand for.
 use Rattle.td_plan.specs.declared.plan.step.Step.{Step}
-use Rattle.td_plan.specs.Plans.{PlanTree}
+use Rattle.td_plan.specs.code.Plans.{PlanTree}
 use Rattle.td_plan.specs.code.StepViews.{step_view}
 
 -- a plan, as contracts see it

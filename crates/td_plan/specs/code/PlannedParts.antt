@@ -2,21 +2,21 @@
 use Rattle.std.specs.declared.alloc.AllocError.{AllocError}
 use Rattle.std.specs.Global.{Box, Vec}
 use Rattle.std.specs.Prelude.{◌≡◌, ℕ, true, IfOk, List, [], ◌∷◌, Option, Some, None, Result, ⊤}
-use Rattle.td_check.specs.Scopes.{Scope, bound_to}
-use Rattle.td_check.specs.StaticTypes.{type_of}
+use Rattle.td_check.specs.model.Scopes.{Scope, bound_to}
+use Rattle.td_check.specs.model.StaticTypes.{type_of}
 use Rattle.td_plan.specs.declared.making.planning.NewColumns.{NewColumns}
 use Rattle.td_plan.specs.declared.plan.step.Step.{Step}
-use Rattle.td_plan.specs.Plans.{PlanTrees, none, more}
-use Rattle.td_plan.specs.PlansOf.{IsPlanOfTyped}
+use Rattle.td_plan.specs.code.Plans.{PlanTrees, none, more}
+use Rattle.td_plan.specs.code.PlansOf.{IsPlanOfTyped}
 use Rattle.td_plan.specs.code.StepViews.{step_view, steps_view}
 use Rattle.td_tree.specs.declared.expression.NamedExpr.{NamedExpr}
 use Rattle.td_tree.specs.declared.expression.Summary.{Summary}
 use Rattle.td_tree.specs.declared.expression.Summary.TheVariants as summaries
-use Rattle.td_tree.specs.Outcomes.{Outcome, Valued}
+use Rattle.td_tree.specs.model.Outcomes.{Outcome, Valued}
 use Rattle.td_tree.specs.code.TreeViews.{tree_view}
-use Rattle.td_tree.specs.Trees.{Tree, literal, truth}
-use Rattle.td_tree.specs.Trees as trees
-use Rattle.td_types.specs.Types.{Attribute, Type'}
+use Rattle.td_tree.specs.model.Trees.{Tree, literal, truth}
+use Rattle.td_tree.specs.model.Trees as trees
+use Rattle.td_types.specs.model.Types.{Attribute, Type'}
 use Rattle.td_types.specs.code.Views.{pairs_view}
 
 -- plans of these expressions, one for each

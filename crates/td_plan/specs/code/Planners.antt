@@ -1,10 +1,10 @@
 -- What an expression is planned in (this project's own).
 use Rattle.std.specs.Prelude.{◌≡◌, ℕ, Bool, false, suc, List, [], ◌∷◌, Option, Some, None, length, option_map, if◌then◌else◌}
-use Rattle.td_catalog.specs.Database.{Database, database_scope}
-use Rattle.td_catalog.specs.KeptDatabases.{CatalogView}
-use Rattle.td_check.specs.Scopes.{Scope}
+use Rattle.td_catalog.specs.model.Database.{Database, database_scope}
+use Rattle.td_catalog.specs.code.KeptDatabases.{CatalogView}
+use Rattle.td_check.specs.model.Scopes.{Scope}
 use Rattle.td_plan.specs.declared.making.planner.Planner.{Planner}
-use Rattle.td_types.specs.Types.{Attribute, Heading, same_name}
+use Rattle.td_types.specs.model.Types.{Attribute, Heading, same_name}
 
 -- the scope where tuples of these headings are in scope, the innermost first
 abbrev pub among_headings : Scope → List Heading → Scope

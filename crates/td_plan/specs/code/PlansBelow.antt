@@ -2,12 +2,12 @@
 use Rattle.std.specs.Borrow.{Bor}
 use Rattle.std.specs.Prelude.{ℕ, ◌<◌, IfOk, Result}
 use Rattle.std.specs.declared.alloc.AllocError.{AllocError}
-use Rattle.td_catalog.specs.Database.{Database}
+use Rattle.td_catalog.specs.model.Database.{Database}
 use Rattle.td_plan.specs.declared.making.planner.Planner.{Planner}
 use Rattle.td_plan.specs.declared.making.planning.Planning.{Planning}
 use Rattle.td_plan.specs.declared.plan.step.Step.{Step}
 use Rattle.td_plan.specs.code.Planners.{IsPlanner}
-use Rattle.td_plan.specs.PlansOf.{IsPlanOfTyped}
+use Rattle.td_plan.specs.code.PlansOf.{IsPlanOfTyped}
 use Rattle.td_plan.specs.code.StepViews.{step_view}
 use Rattle.td_plan.specs.code.TreeWeights.{expr_weight}
 use Rattle.td_tree.specs.declared.expression.Expr.{Expr}

@@ -1,8 +1,8 @@
 -- What is found without causes (this project's own).
 use Rattle.std.specs.Global.{Vec}
 use Rattle.std.specs.Prelude.{◌≡◌, List, map, Option, Some, None, ⊤}
-use Rattle.td_tree.specs.Outcomes.{Outcome, Valued, with_both}
-use Rattle.td_value.specs.Values.{Tuple, Val}
+use Rattle.td_tree.specs.model.Outcomes.{Outcome, Valued, with_both}
+use Rattle.td_value.specs.model.Values.{Tuple, Val}
 
 -- where something is found, it is the value
 abbrev pub IsQuick : {X : Type 0} → (X → Val) → Option X → Outcome Val → Type 0

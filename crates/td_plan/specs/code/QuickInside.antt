@@ -1,8 +1,8 @@
 -- What is found without causes where tuples are in scope, and inside a loop (this project's own).
 use Rattle.std.specs.Global.{Vec}
 use Rattle.std.specs.Prelude.{Bool, List, Option}
-use Rattle.td_eval.specs.OperatorValues.{comparison_value}
-use Rattle.td_eval.specs.Worlds.{World}
+use Rattle.td_eval.specs.model.OperatorValues.{comparison_value}
+use Rattle.td_eval.specs.model.Worlds.{World}
 use Rattle.td_plan.specs.declared.plan.step.Step.{Step}
 use Rattle.td_plan.specs.declared.running.hand.Batch.{Batch}
 use Rattle.td_plan.specs.declared.running.hand.Hand.{Hand}
@@ -13,8 +13,8 @@ use Rattle.td_plan.specs.code.Memos.{IsMemo, IsMemoBelow, IsSound, Parts}
 use Rattle.td_plan.specs.code.Quick.{AreQuick, IsQuick}
 use Rattle.td_plan.specs.code.Runs.{step_value, value_in}
 use Rattle.td_tree.specs.declared.operator.Comparison.{Comparison}
-use Rattle.td_tree.specs.Outcomes.{Outcome, with_both}
-use Rattle.td_value.specs.Values.{Tuple, Val, boolean}
+use Rattle.td_tree.specs.model.Outcomes.{Outcome, with_both}
+use Rattle.td_value.specs.model.Values.{Tuple, Val, boolean}
 
 -- where something is found, it is the value of the step
 abbrev pub IsQuickIn : {X : Type 0} → (X → Val) → Memo → Hand → Step → Option X → Type 0

@@ -1,21 +1,21 @@
 -- What plans give, and steps inside a loop over tuples, as the code has it (this project's own).
 use Rattle.std.specs.Borrow.{Bor}
 use Rattle.std.specs.Prelude.{ℕ, List, Bool, Option, Some, None, Result, map, option_map}
-use Rattle.td_check.specs.Scopes.{Scope}
-use Rattle.td_eval.specs.OperatorValues.{truth_value, value_of_type}
-use Rattle.td_eval.specs.UnfailingValues.{GivesValues}
-use Rattle.td_eval.specs.Worlds.{World}
+use Rattle.td_check.specs.model.Scopes.{Scope}
+use Rattle.td_eval.specs.model.OperatorValues.{truth_value, value_of_type}
+use Rattle.td_eval.specs.laws.UnfailingValues.{GivesValues}
+use Rattle.td_eval.specs.model.Worlds.{World}
 use Rattle.td_plan.specs.declared.plan.step.Step.{Step}
-use Rattle.td_plan.specs.Plans.{PlanTree, Slots, plan_columns, plan_value, plan_values, with_slot}
-use Rattle.td_plan.specs.PlansOf.{AreInHand, IsPlanFor, outermost}
+use Rattle.td_plan.specs.code.Plans.{PlanTree, Slots, plan_columns, plan_value, plan_values, with_slot}
+use Rattle.td_plan.specs.code.PlansOf.{AreInHand, IsPlanFor, outermost}
 use Rattle.td_plan.specs.code.StepViews.{step_view, steps_view}
 use Rattle.td_tree.specs.declared.fault.Fault.{Fault}
-use Rattle.td_tree.specs.Outcomes.{Answers, Outcome, gathered, with_value}
-use Rattle.td_types.specs.Types.{Type'}
+use Rattle.td_tree.specs.model.Outcomes.{Answers, Outcome, gathered, with_value}
+use Rattle.td_types.specs.model.Types.{Type'}
 use Rattle.td_types.specs.declared.ty.Ty.{Ty}
 use Rattle.td_types.specs.code.Views.{type_view}
 use Rattle.td_value.specs.code.Views.{values_of}
-use Rattle.td_value.specs.Values.{Tuple, Val}
+use Rattle.td_value.specs.model.Values.{Tuple, Val}
 
 -- the answer is what the plan is for
 abbrev pub AnswersPlan : World → List Tuple → PlanTree → Result Val Fault → Type 0

@@ -9,7 +9,7 @@ use Rattle.td_plan.specs.declared.plan.step.Selector.{Selector}
 use Rattle.td_plan.specs.declared.plan.step.Selector.TheVariants as selectors
 use Rattle.td_plan.specs.declared.plan.step.Step.{Step, Row_of-Step, end_of-Step, more_of-Step}
 use Rattle.td_plan.specs.declared.plan.step.Step.TheVariants as p
-use Rattle.td_plan.specs.Plans as plans
+use Rattle.td_plan.specs.code.Plans as plans
 use Rattle.td_tree.specs.code.TreeViews.{attributes_view, postfix_view}
 use Rattle.td_types.specs.code.Views.{pairs_view}
 

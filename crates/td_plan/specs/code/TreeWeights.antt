@@ -4,7 +4,7 @@ use Rattle.td_plan.specs.code.PlannedParts.{item_tree}
 use Rattle.td_tree.specs.declared.expression.Expr.{Expr}
 use Rattle.td_tree.specs.declared.expression.Summary.{Summary}
 use Rattle.td_tree.specs.code.TreeViews.{tree_view}
-use Rattle.td_tree.specs.Trees as trees
+use Rattle.td_tree.specs.model.Trees as trees
 
 abbrev mutual
   pub weight : trees.Tree → ℕ

@@ -1,7 +1,7 @@
 -- The steps that are lower than a height may be evaluated, and get the values that plans give them.
 use Rattle.std.specs.Borrow.{Bor, MutBor}
 use Rattle.std.specs.Prelude.{ℕ, ◌<◌, Result}
-use Rattle.td_eval.specs.Worlds.{World}
+use Rattle.td_eval.specs.model.Worlds.{World}
 use Rattle.td_plan.specs.declared.plan.step.Step.{Step}
 use Rattle.td_plan.specs.declared.running.evaluator.Evaluator.{Evaluator}
 use Rattle.td_plan.specs.declared.running.hand.Hand.{Hand}
@@ -11,8 +11,8 @@ use Rattle.td_plan.specs.code.Memos.{IsReady, IsSound, Keeps}
 use Rattle.td_plan.specs.code.Runs.{step_value}
 use Rattle.td_plan.specs.code.StepHeights.{step_height}
 use Rattle.td_tree.specs.declared.fault.Fault.{Fault}
-use Rattle.td_tree.specs.Outcomes.{Answers}
-use Rattle.td_value.specs.Values.{Val}
+use Rattle.td_tree.specs.model.Outcomes.{Answers}
+use Rattle.td_value.specs.model.Values.{Val}
 
 pub record ValuesBelow {A F : Type 0} (world : A → World) (e : Evaluator A F) (height : ℕ)
     (pre : F → Bor A → MutBor Memo → Bor Hand → Bor Step → Type 0)

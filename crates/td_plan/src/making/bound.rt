@@ -1,15 +1,15 @@
 //! The step of what stands where the values of WITH's items are in scope.
 ghost use Rattle.std.specs.Prelude.{◌≡◌, ◌∷◌, ◌+◌, [], IfOk, suc};
-ghost use Rattle.td_check.specs.Scopes.{Scope};
+ghost use Rattle.td_check.specs.model.Scopes.{Scope};
 ghost use Rattle.td_plan.specs.code.PlannedParts.{IsPlanned};
 ghost use Rattle.td_plan.specs.code.Planners.{IsPlanner};
 ghost use Rattle.td_plan.specs.code.PlansBelow.{PlansBelow};
 ghost use Rattle.td_plan.specs.code.TreeWeights.{expr_weight, named_weight};
 ghost use Rattle.td_tree.specs.code.TreeViews.{named_view, tree_view};
-ghost use Rattle.td_tree.specs.Trees as trees;
-ghost use Rattle.td_tree.specs.Trees.{Tree};
+ghost use Rattle.td_tree.specs.model.Trees as trees;
+ghost use Rattle.td_tree.specs.model.Trees.{Tree};
 
-use crate::making::planner::{Known, Planner};
+use crate::making::planner::{Definitions, Planner};
 use crate::making::planning::Planning;
 use crate::plan::step::{Selector, Step};
 use std::alloc::{AllocError, Global};
@@ -41,7 +41,7 @@ fn item_step(
     Ok(Step::Select(Selector::Tuple(names), values))
 }
 
-impl<C: Known, F> Planning<'_, C, F>
+impl<C: Definitions, F> Planning<'_, C, F>
 where
     F: Fn(&Planner<'_, C>, &Expr) -> Result<Step, AllocError> + Copy,
 {

@@ -1,13 +1,13 @@
 //! Relations and tuples of which all parts are literals. They have their values before a plan is
 //! run, by evaluation, which costs less than planning them.
 ghost use Rattle.std.specs.Prelude.{IfOk, IfSome, IsTrue};
-ghost use Rattle.td_plan.specs.Closed.{AreClosed, IsClosed, PartsAreClosed};
-ghost use Rattle.td_plan.specs.PlansOf.{IsPlanOfTyped};
+ghost use Rattle.td_plan.specs.code.Closed.{AreClosed, IsClosed, PartsAreClosed};
+ghost use Rattle.td_plan.specs.code.PlansOf.{IsPlanOfTyped};
 ghost use Rattle.td_plan.specs.code.Planners.{IsPlanner};
 ghost use Rattle.td_plan.specs.code.StepViews.{step_view};
 ghost use Rattle.td_tree.specs.code.TreeViews.{named_view, tree_view, trees_view};
 
-use crate::making::planner::{Known, Planner};
+use crate::making::planner::{Definitions, Planner};
 use crate::plan::step::Step;
 use std::alloc::AllocError;
 use td_tree::expression::{Expr, NamedExpr};
@@ -66,7 +66,7 @@ pub(crate) fn is_closed(expr: &Expr) -> bool
 
 /// The step of what such an expression has, if it has a value.
 #[inline(never)]
-pub(crate) fn closed_step<C: Known>(
+pub(crate) fn closed_step<C: Definitions>(
     planner: &Planner<'_, C>,
     expr: &Expr,
 ) -> Result<Option<Step>, AllocError>

@@ -1,19 +1,19 @@
 //! The steps of nodes, made of the steps of their parts.
 ghost use Rattle.std.specs.Prelude.{◌≡◌, IfOk, map};
 ghost use Rattle.std.specs.Rc.{rc_str_bytes};
-ghost use Rattle.td_check.specs.Scopes.{Scope};
-ghost use Rattle.td_plan.specs.Plans as plans;
-ghost use Rattle.td_plan.specs.OperatorTrees.{dyadic_tree, monadic_tree};
+ghost use Rattle.td_check.specs.model.Scopes.{Scope};
+ghost use Rattle.td_plan.specs.code.Plans as plans;
+ghost use Rattle.td_plan.specs.code.OperatorTrees.{dyadic_tree, monadic_tree};
 ghost use Rattle.td_plan.specs.code.PlannedParts.{ArePlanned, IsBoxPlanned, IsPlanned, in_trees};
 ghost use Rattle.td_plan.specs.code.PlannedParts.{part_tree};
 ghost use Rattle.td_plan.specs.code.Planners.{IsPlanner};
 ghost use Rattle.td_plan.specs.code.StepViews.{dyadic_view, monadic_view};
 ghost use Rattle.td_tree.specs.code.TreeViews.{heading_tree_view, literal_view, named_view};
 ghost use Rattle.td_tree.specs.code.TreeViews.{postfix_view};
-ghost use Rattle.td_tree.specs.Trees as trees;
-ghost use Rattle.td_tree.specs.Trees.{Tree};
+ghost use Rattle.td_tree.specs.model.Trees as trees;
+ghost use Rattle.td_tree.specs.model.Trees.{Tree};
 
-use crate::making::planner::{Known, Planner};
+use crate::making::planner::{Definitions, Planner};
 use crate::plan::step::{Dyadic, Monadic, Selector, Step};
 use std::alloc::{AllocError, Global};
 use std::rc::RcStr;
@@ -39,7 +39,10 @@ pub(crate) fn literal_step(alloc: Global, literal: &Literal) -> Result<Step, All
 
 /// The step of the innermost attribute of a name, else of the relvar.
 #[inline(never)]
-pub(crate) fn name_step<C: Known>(planner: &Planner<'_, C>, name: &Name) -> Result<Step, AllocError>
+pub(crate) fn name_step<C: Definitions>(
+    planner: &Planner<'_, C>,
+    name: &Name,
+) -> Result<Step, AllocError>
     requires { IsPlanner C.database planner.now }
     ensures { IsPlanned planner.now.scope result (trees.name name.now) }
 {
@@ -125,7 +128,7 @@ pub(crate) fn relation_step(elements: Result<Vec<Step>, AllocError>) -> Result<S
 
 /// The step of a relation of tuples of a heading.
 #[inline(never)]
-pub(crate) fn headed_step<C: Known>(
+pub(crate) fn headed_step<C: Definitions>(
     planner: &Planner<'_, C>,
     heading: &[AttributeTree],
     elements: Result<Vec<Step>, AllocError>,

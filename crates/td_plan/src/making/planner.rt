@@ -1,17 +1,17 @@
 //! What an expression is planned in.
 ghost use Rattle.std.specs.Prelude.{◌≡◌, IfNone, IfOk, IfSome, OnOk, [], length, reverse};
 ghost use Rattle.std.specs.List.{slice_get};
-ghost use Rattle.td_catalog.specs.Database.{Database, database_scope};
-ghost use Rattle.td_check.specs.Scopes.{bound_to, entered_with};
-ghost use Rattle.td_check.specs.StaticTypes.{type_of};
+ghost use Rattle.td_catalog.specs.model.Database.{Database, database_scope};
+ghost use Rattle.td_check.specs.model.Scopes.{bound_to, entered_with};
+ghost use Rattle.td_check.specs.model.StaticTypes.{type_of};
 ghost use Rattle.td_plan.specs.code.Planners.{IsPlanner, attribute_place, catalog_database};
 ghost use Rattle.td_plan.specs.code.Planners.{is_named, place_in};
-ghost use Rattle.td_eval.specs.DatabaseWorlds.{world_of};
-ghost use Rattle.td_eval.specs.TreeValues.{value_of};
-ghost use Rattle.td_tree.specs.Outcomes.{Answers, Valued};
+ghost use Rattle.td_eval.specs.model.DatabaseWorlds.{world_of};
+ghost use Rattle.td_eval.specs.model.TreeValues.{value_of};
+ghost use Rattle.td_tree.specs.model.Outcomes.{Answers, Valued};
 ghost use Rattle.td_tree.specs.code.TreeViews.{tree_view};
-ghost use Rattle.td_types.specs.Types as types;
-ghost use Rattle.td_types.specs.Types.{Heading, pack};
+ghost use Rattle.td_types.specs.model.Types as types;
+ghost use Rattle.td_types.specs.model.Types.{Heading, pack};
 ghost use Rattle.td_types.specs.code.Views.{type_view};
 
 use std::alloc::{AllocError, Global};
@@ -31,7 +31,7 @@ use td_value::relation::Rel;
 use td_value::value::Value;
 
 /// What is defined, as far as planning asks for it.
-pub(crate) trait Known {
+pub(crate) trait Definitions {
     /// All of it.
     ghost database: { Self → Database };
 
@@ -52,7 +52,7 @@ pub(crate) trait Known {
             (value_of (world_of (database self.now)) [] (tree_view expr.now)) };
 }
 
-impl<B: Body> Known for Catalog<B> {
+impl<B: Body> Definitions for Catalog<B> {
     ghost database = { catalog_database };
 
     fn outermost(&self) -> Scope<'_> {
@@ -137,7 +137,7 @@ fn innermost_place(headings: &[Heading], name: &Name) -> Option<(usize, usize)>
     }
 }
 
-impl<'a, C: Known> Planner<'a, C> {
+impl<'a, C: Definitions> Planner<'a, C> {
     /// Where no tuple is in scope. It takes no memory.
     pub(crate) fn outside(
         alloc: Global,

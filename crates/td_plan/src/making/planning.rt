@@ -1,8 +1,8 @@
 //! Plans of expressions. Each function takes what plans the parts of an expression as a parameter,
 //! so that it is proved by itself.
 ghost use Rattle.std.specs.Prelude.{◌+◌, IfOk, map, suc};
-ghost use Rattle.td_check.specs.Scopes.{entered_with};
-ghost use Rattle.td_check.specs.StaticTypes.{named_types};
+ghost use Rattle.td_check.specs.model.Scopes.{entered_with};
+ghost use Rattle.td_check.specs.model.StaticTypes.{named_types};
 ghost use Rattle.td_plan.specs.code.PlannedParts.{AreFoundColumns, ArePlanned, IsBoxPlanned};
 ghost use Rattle.td_plan.specs.code.PlannedParts.{IsExtensionPlanned, IsPlanned, in_named};
 ghost use Rattle.td_plan.specs.code.PlannedParts.{part_tree};
@@ -10,14 +10,14 @@ ghost use Rattle.td_plan.specs.code.Planners.{IsPlanner};
 ghost use Rattle.td_plan.specs.code.PlansBelow.{PlansBelow};
 ghost use Rattle.td_plan.specs.code.TreeWeights.{expr_weight, named_weight, weights};
 ghost use Rattle.td_tree.specs.code.TreeViews.{named_view, tree_view, trees_view};
-ghost use Rattle.td_tree.specs.Trees as trees;
+ghost use Rattle.td_tree.specs.model.Trees as trees;
 
 use crate::making::closed::closed_step;
 use crate::making::nodes::{
     choice_step, component, dyadic_step, extraction, headed_step, literal_step, monadic_step,
     name_step, postfix, relation_step, select_step, tuple_step,
 };
-use crate::making::planner::{Known, Planner};
+use crate::making::planner::{Definitions, Planner};
 use crate::plan::step::{Dyadic, Monadic, Origin, Step};
 use std::alloc::AllocError;
 use td_check::expression::check_parts;
@@ -45,7 +45,7 @@ pub(crate) struct Planning<'p, C, F> {
     pub(crate) inner: F,
 }
 
-impl<C: Known, F> Planning<'_, C, F>
+impl<C: Definitions, F> Planning<'_, C, F>
 where
     F: Fn(&Planner<'_, C>, &Expr) -> Result<Step, AllocError> + Copy,
 {
@@ -243,7 +243,10 @@ where
 }
 
 /// The step of an expression.
-pub(crate) fn step_of<C: Known>(planner: &Planner<'_, C>, expr: &Expr) -> Result<Step, AllocError>
+pub(crate) fn step_of<C: Definitions>(
+    planner: &Planner<'_, C>,
+    expr: &Expr,
+) -> Result<Step, AllocError>
     requires { IsPlanner C.database planner.now }
     ensures { IsPlanned planner.now.scope result (tree_view expr.now) }
 {
@@ -255,7 +258,7 @@ pub(crate) fn step_of<C: Known>(planner: &Planner<'_, C>, expr: &Expr) -> Result
 }
 
 /// The steps of the expressions of parts, in the order written.
-pub(crate) fn part_steps<C: Known>(
+pub(crate) fn part_steps<C: Definitions>(
     planner: &Planner<'_, C>,
     parts: &[NamedExpr],
 ) -> Result<Vec<Step>, AllocError>
@@ -270,7 +273,7 @@ pub(crate) fn part_steps<C: Known>(
 }
 
 /// The step of the tuples of an expression's relation for which a condition is true.
-pub(crate) fn where_of<C: Known>(
+pub(crate) fn where_of<C: Definitions>(
     planner: &Planner<'_, C>,
     expr: &Expr,
     condition: &Expr,

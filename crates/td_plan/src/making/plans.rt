@@ -1,11 +1,12 @@
 //! The plans of expressions.
 ghost use Rattle.std.specs.Prelude.{◌≡◌, IfOk, IsOkAnd};
 ghost use Rattle.td_plan.specs.code.Planners.{IsPlanner, catalog_database};
-ghost use Rattle.td_plan.specs.PlansOf.{ArePlannedSettings, IsPlanIfTyped, IsPlanOfTyped, scope_in};
+ghost use Rattle.td_plan.specs.code.PlansOf.{ArePlannedSettings, IsPlanIfTyped, IsPlanOfTyped};
+ghost use Rattle.td_plan.specs.code.PlansOf.{scope_in};
 ghost use Rattle.td_plan.specs.code.PlanViews.{plan_view};
 ghost use Rattle.td_plan.specs.code.StepViews.{step_view};
 ghost use Rattle.td_tree.specs.code.TreeViews.{named_view, tree_view};
-ghost use Rattle.td_tree.specs.Trees as trees;
+ghost use Rattle.td_tree.specs.model.Trees as trees;
 ghost use Rattle.td_types.specs.code.Views.{pairs_view};
 
 use crate::making::planner::Planner;

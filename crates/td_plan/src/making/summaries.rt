@@ -1,17 +1,17 @@
 //! The steps of SUMMARIZE.
 ghost use Rattle.std.specs.Prelude.{◌≡◌, ◌+◌, IfOk, map, suc, true};
-ghost use Rattle.td_check.specs.Scopes.{entered_with};
-ghost use Rattle.td_eval.specs.AggregateValues.{summary_attributes};
+ghost use Rattle.td_check.specs.model.Scopes.{entered_with};
+ghost use Rattle.td_eval.specs.model.AggregateValues.{summary_attributes};
 ghost use Rattle.td_eval.specs.code.Totals.{asked_by};
 ghost use Rattle.td_plan.specs.code.PlannedParts.{AreFoundColumns, ArePlanned, IsPlanned};
 ghost use Rattle.td_plan.specs.code.PlannedParts.{in_summaries, item_tree};
 ghost use Rattle.td_plan.specs.code.PlansBelow.{PlansBelow};
 ghost use Rattle.td_plan.specs.code.TreeWeights.{expr_weight, item_weight, summaries_weight};
 ghost use Rattle.td_tree.specs.code.TreeViews.{attributes_view, summaries_view, tree_view};
-ghost use Rattle.td_tree.specs.Trees as trees;
-ghost use Rattle.td_types.specs.Types.{Heading};
+ghost use Rattle.td_tree.specs.model.Trees as trees;
+ghost use Rattle.td_types.specs.model.Types.{Heading};
 
-use crate::making::planner::{Known, Planner};
+use crate::making::planner::{Definitions, Planner};
 use crate::making::planning::{NewColumns, Planning};
 use crate::plan::step::Step;
 use std::alloc::{AllocError, Global};
@@ -33,7 +33,7 @@ pub(crate) fn aggregates_of(alloc: Global, items: &[Summary]) -> Result<Vec<Agg>
     Ok(aggregates)
 }
 
-impl<C: Known, F> Planning<'_, C, F>
+impl<C: Definitions, F> Planning<'_, C, F>
 where
     F: Fn(&Planner<'_, C>, &Expr) -> Result<Step, AllocError> + Copy,
 {

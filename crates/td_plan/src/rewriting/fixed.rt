@@ -1,18 +1,18 @@
 //! Attributes that a condition fixes to values.
 ghost use Rattle.std.specs.Prelude.{◌≡◌, IfOk, IsTrue, suc};
-ghost use Rattle.td_check.specs.Scopes.{Scope};
-ghost use Rattle.td_plan.specs.Fixing.{AreOneWhere, HasTypeOf, IsUnfailing, MayFix};
-ghost use Rattle.td_plan.specs.Narrowing.{AreFixed, Implies};
+ghost use Rattle.td_check.specs.model.Scopes.{Scope};
+ghost use Rattle.td_plan.specs.code.Fixing.{AreOneWhere, HasTypeOf, IsUnfailing, MayFix};
+ghost use Rattle.td_plan.specs.code.Narrowing.{AreFixed, Implies};
 ghost use Rattle.td_plan.specs.code.PlansBelow.{PlansBelow};
 ghost use Rattle.td_plan.specs.code.TreeWeights.{expr_weight};
 ghost use Rattle.td_tree.specs.declared.operator.Comparison.TheVariants as comparisons;
 ghost use Rattle.td_tree.specs.declared.operator.Operator.TheVariants as operators;
 ghost use Rattle.td_tree.specs.code.TreeViews.{tree_view};
-ghost use Rattle.td_tree.specs.Trees.{Tree};
-ghost use Rattle.td_tree.specs.WrittenTrees.{IsWritten};
-ghost use Rattle.td_types.specs.Types.{Heading};
+ghost use Rattle.td_tree.specs.model.Trees.{Tree};
+ghost use Rattle.td_tree.specs.model.WrittenTrees.{IsWritten};
+ghost use Rattle.td_types.specs.model.Types.{Heading};
 
-use crate::making::planner::{Known, Planner};
+use crate::making::planner::{Definitions, Planner};
 use crate::making::planning::Planning;
 use crate::plan::step::Step;
 use crate::rewriting::brief::is_brief;
@@ -35,7 +35,7 @@ pub(crate) struct FixedValue {
 }
 
 /// Whether an expression has, outside of the tuples of the heading, the type of an attribute there.
-fn has_type_of<C: Known>(
+fn has_type_of<C: Definitions>(
     planner: &Planner<'_, C>,
     heading: &Heading,
     name: &Name,
@@ -69,7 +69,7 @@ pub(crate) fn has_a_value(scope: &Scope<'_>, expr: &Expr) -> Result<bool, AllocE
 
 /// Whether an equality with the expression fixes the attribute of the name. It is planned once more
 /// for each WHERE around it, so that only what is brief does.
-fn may_fix<C: Known>(
+fn may_fix<C: Definitions>(
     planner: &Planner<'_, C>,
     heading: &Heading,
     name: &Name,
@@ -99,7 +99,7 @@ fn is_equal(op: Comparison) -> bool
     matches!(op, Comparison::Equal)
 }
 
-impl<C: Known, F> Planning<'_, C, F>
+impl<C: Definitions, F> Planning<'_, C, F>
 where
     F: Fn(&Planner<'_, C>, &Expr) -> Result<Step, AllocError> + Copy,
 {

@@ -1,20 +1,20 @@
 //! Operands of WHERE that are looked up by a key.
 ghost use Rattle.std.specs.Prelude.{◌<◌, ◌≡◌, IfOk, IfSome, length, map};
 ghost use Rattle.std.specs.List.{Contains, HoldsAt};
-ghost use Rattle.td_check.specs.Scopes.{Scope, entered_with};
+ghost use Rattle.td_check.specs.model.Scopes.{Scope, entered_with};
 ghost use Rattle.td_plan.specs.declared.rewriting.fixed.FixedValue.{FixedValue};
-ghost use Rattle.td_plan.specs.LookUps.{IsBase, MeansName};
-ghost use Rattle.td_plan.specs.Narrowing.{AreFixed, MayNarrow};
-ghost use Rattle.td_plan.specs.Fixing.{IsUnfailing};
-ghost use Rattle.td_plan.specs.Plans as plans;
+ghost use Rattle.td_plan.specs.code.LookUps.{IsBase, MeansName};
+ghost use Rattle.td_plan.specs.code.Narrowing.{AreFixed, MayNarrow};
+ghost use Rattle.td_plan.specs.code.Fixing.{IsUnfailing};
+ghost use Rattle.td_plan.specs.code.Plans as plans;
 ghost use Rattle.td_plan.specs.code.StepViews.{step_view, steps_view};
 ghost use Rattle.td_tree.specs.code.TreeViews.{tree_view};
-ghost use Rattle.td_tree.specs.Trees.{Tree};
-ghost use Rattle.td_tree.specs.WrittenTrees.{IsWritten};
-ghost use Rattle.td_types.specs.Headings.{projection};
-ghost use Rattle.td_types.specs.Types.{attribute_names};
+ghost use Rattle.td_tree.specs.model.Trees.{Tree};
+ghost use Rattle.td_tree.specs.model.WrittenTrees.{IsWritten};
+ghost use Rattle.td_types.specs.model.Headings.{projection};
+ghost use Rattle.td_types.specs.model.Types.{attribute_names};
 
-use crate::making::planner::{Known, Planner};
+use crate::making::planner::{Definitions, Planner};
 use crate::plan::step::{Selector, Step};
 use crate::rewriting::fixed::{FixedValue, has_a_value};
 use std::alloc::{AllocError, Global};
@@ -39,7 +39,10 @@ fn bare_name(expr: &Expr) -> Option<&Name>
 
 /// The name in an expression that is the name of a base relvar, which no attribute hides and in
 /// whose place no other relation stands.
-pub(crate) fn base_named<'e, C: Known>(planner: &Planner<'_, C>, expr: &'e Expr) -> Option<&'e Name>
+pub(crate) fn base_named<'e, C: Definitions>(
+    planner: &Planner<'_, C>,
+    expr: &'e Expr,
+) -> Option<&'e Name>
     ensures means { IfSome result (λ n. MeansName n.now (tree_view expr.now)) }
     ensures base { IfSome result (λ n. IsBase planner.now.scope n.now) }
 {
@@ -63,7 +66,7 @@ fn is_fixed_key(fixed: &[FixedValue], key: &[Name]) -> bool {
 }
 
 /// The names of the first key of a base relvar whose attributes are all fixed.
-fn key_of<'p, C: Known>(
+fn key_of<'p, C: Definitions>(
     planner: &'p Planner<'_, C>,
     name: &Name,
     fixed: &[FixedValue],
@@ -193,7 +196,7 @@ fn look_up_step(
 
 /// The names of the first key of a base relvar whose attributes are all fixed, where the condition
 /// is known to have a value in each tuple.
-fn total_key<'p, C: Known>(
+fn total_key<'p, C: Definitions>(
     inner: &'p Planner<'_, C>,
     name: &Name,
     condition: &Expr,
@@ -210,7 +213,7 @@ fn total_key<'p, C: Known>(
 
 /// The look-up of the operand of WHERE that the name means, by the first declared key whose
 /// attributes the condition all fixes. The inner planner knows the operand's tuple, of the heading.
-pub(crate) fn look_up_by_key<C: Known>(
+pub(crate) fn look_up_by_key<C: Definitions>(
     inner: &Planner<'_, C>,
     name: &Name,
     heading: &Heading,

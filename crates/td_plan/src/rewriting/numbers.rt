@@ -1,8 +1,8 @@
 //! Whether the numbers in an expression are in INTEGER's range, as they are in what is read. One that
 //! asks for an aggregate may fail whatever they are, and is not looked into.
 ghost use Rattle.std.specs.Prelude.{IsTrue};
-ghost use Rattle.td_eval.specs.TreeNumbers.{HasNumbers, HaveNumbers, IsInRangeLiteral};
-ghost use Rattle.td_eval.specs.TreeNumbers.{PartsHaveNumbers};
+ghost use Rattle.td_eval.specs.laws.TreeNumbers.{HasNumbers, HaveNumbers, IsInRangeLiteral};
+ghost use Rattle.td_eval.specs.laws.TreeNumbers.{PartsHaveNumbers};
 ghost use Rattle.td_tree.specs.code.TreeViews.{literal_view, named_view, tree_view, trees_view};
 
 use td_tree::expression::{Expr, Literal, MAX_MAGNITUDE, NamedExpr};

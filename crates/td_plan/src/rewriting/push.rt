@@ -1,20 +1,20 @@
 //! Restrictions that are computed of operands of what they restrict.
 ghost use Rattle.std.specs.Prelude.{◌&&◌, ◌≡◌, IfOk, IsTrue, not};
 ghost use Rattle.std.specs.List.{list_any};
-ghost use Rattle.td_check.specs.StaticTypes.{type_of};
-ghost use Rattle.td_plan.specs.EqualitiesOfNames.{NamesOnly};
-ghost use Rattle.td_plan.specs.Fixing.{IsUnfailing};
+ghost use Rattle.td_check.specs.model.StaticTypes.{type_of};
+ghost use Rattle.td_plan.specs.laws.EqualitiesOfNames.{NamesOnly};
+ghost use Rattle.td_plan.specs.code.Fixing.{IsUnfailing};
 ghost use Rattle.td_plan.specs.code.Planners.{IsPlanner};
-ghost use Rattle.td_plan.specs.Pushing.{IsAnsweredIn, MayBePushed};
+ghost use Rattle.td_plan.specs.code.Pushing.{IsAnsweredIn, MayBePushed};
 ghost use Rattle.td_tree.specs.declared.operator.Operator.TheVariants as operators;
-ghost use Rattle.td_tree.specs.Outcomes.{Valued};
+ghost use Rattle.td_tree.specs.model.Outcomes.{Valued};
 ghost use Rattle.td_tree.specs.code.TreeViews.{tree_view};
-ghost use Rattle.td_tree.specs.Trees.{Tree};
-ghost use Rattle.td_types.specs.Headings.{has_attribute};
-ghost use Rattle.td_types.specs.Types as types;
-ghost use Rattle.td_types.specs.Types.{attribute_names, pack};
+ghost use Rattle.td_tree.specs.model.Trees.{Tree};
+ghost use Rattle.td_types.specs.model.Headings.{has_attribute};
+ghost use Rattle.td_types.specs.model.Types as types;
+ghost use Rattle.td_types.specs.model.Types.{attribute_names, pack};
 
-use crate::making::planner::{Known, Planner};
+use crate::making::planner::{Definitions, Planner};
 use crate::rewriting::brief::is_brief;
 use crate::rewriting::fixed::has_a_value;
 use std::alloc::{AllocError, Global};
@@ -52,7 +52,7 @@ fn has_a_truth_value(scope: &Scope<'_>, expr: &Expr) -> Result<bool, AllocError>
 }
 
 /// Whether a condition is known to have a truth value in each tuple of the heading.
-fn is_answered<C: Known>(
+fn is_answered<C: Definitions>(
     planner: &Planner<'_, C>,
     heading: &Heading,
     condition: &Expr,
@@ -67,7 +67,7 @@ fn is_answered<C: Known>(
 }
 
 /// Whether it is so of the heading of an operand's tuples.
-fn is_answered_of<C: Known>(
+fn is_answered_of<C: Definitions>(
     planner: &Planner<'_, C>,
     operand: &Expr,
     condition: &Expr,
@@ -84,7 +84,7 @@ fn is_answered_of<C: Known>(
 
 /// A union's operands, where a condition restricts both. It is planned for each, so that only a
 /// brief one is.
-fn restricted_of_union<C: Known>(
+fn restricted_of_union<C: Definitions>(
     planner: &Planner<'_, C>,
     left: &Expr,
     right: &Expr,
@@ -105,7 +105,7 @@ fn restricted_of_union<C: Known>(
 }
 
 /// The first operand of an intersection or a difference, where a condition restricts it.
-fn restricted_first<C: Known>(
+fn restricted_first<C: Definitions>(
     planner: &Planner<'_, C>,
     left: &Expr,
     condition: &Expr,
@@ -147,7 +147,7 @@ pub(crate) fn names_only(
 
 /// Whether a condition restricts an operand of a join whose tuples have the heading, since it asks
 /// of this operand's attributes alone, and of none that the other operand has besides.
-fn is_asked_of<C: Known>(
+fn is_asked_of<C: Definitions>(
     planner: &Planner<'_, C>,
     heading: &Heading,
     other: &Heading,
@@ -167,7 +167,7 @@ fn is_asked_of<C: Known>(
 }
 
 /// The operand of a join or a product that has every attribute which a condition names.
-fn restricted_of_join<C: Known>(
+fn restricted_of_join<C: Definitions>(
     planner: &Planner<'_, C>,
     left: &Expr,
     right: &Expr,
@@ -195,7 +195,7 @@ fn restricted_of_join<C: Known>(
 }
 
 /// The operands of an operator that a condition restricts in place of what the operator gives.
-pub(crate) fn restricted_operands<C: Known>(
+pub(crate) fn restricted_operands<C: Definitions>(
     planner: &Planner<'_, C>,
     left: &Expr,
     op: Operator,

@@ -1,17 +1,17 @@
 //! The steps of WHERE. A condition that cannot fail restricts the operands of WHERE's operand.
 ghost use Rattle.std.specs.Prelude.{◌≡◌, ◌+◌, suc};
-ghost use Rattle.td_check.specs.Scopes.{entered_with};
-ghost use Rattle.td_plan.specs.Narrowing.{IsNarrowed, MayNarrow};
+ghost use Rattle.td_check.specs.model.Scopes.{entered_with};
+ghost use Rattle.td_plan.specs.code.Narrowing.{IsNarrowed, MayNarrow};
 ghost use Rattle.td_plan.specs.code.PlannedParts.{IsBoxPlanned, IsPlanned};
 ghost use Rattle.td_plan.specs.code.PlansBelow.{PlansBelow};
-ghost use Rattle.td_plan.specs.Pushing.{restricted_tree};
+ghost use Rattle.td_plan.specs.code.Pushing.{restricted_tree};
 ghost use Rattle.td_plan.specs.code.TreeWeights.{expr_weight};
 ghost use Rattle.td_tree.specs.code.TreeViews.{tree_view};
-ghost use Rattle.td_tree.specs.Trees as trees;
-ghost use Rattle.td_types.specs.Types.{Heading};
+ghost use Rattle.td_tree.specs.model.Trees as trees;
+ghost use Rattle.td_types.specs.model.Types.{Heading};
 
 use crate::making::nodes::dyadic_step;
-use crate::making::planner::{Known, Planner};
+use crate::making::planner::{Definitions, Planner};
 use crate::making::planning::Planning;
 use crate::plan::step::{Dyadic, Origin, Step};
 use crate::rewriting::narrowed::{base_named, look_up_by_key};
@@ -21,7 +21,7 @@ use td_tree::expression::Expr;
 use td_tree::operator::Operator;
 use td_types::heading::Heading;
 
-impl<C: Known, F> Planning<'_, C, F>
+impl<C: Definitions, F> Planning<'_, C, F>
 where
     F: Fn(&Planner<'_, C>, &Expr) -> Result<Step, AllocError> + Copy,
 {

@@ -1,7 +1,7 @@
 //! The value of what stands where the values of WITH's items are in scope.
 ghost use Rattle.std.specs.Prelude.{◌≡◌, ◌<◌, IfOk, IfSome};
-ghost use Rattle.td_eval.specs.Worlds.{World};
-ghost use Rattle.td_plan.specs.Plans.{bound, plan_value, plan_where_bound, slots_before};
+ghost use Rattle.td_eval.specs.model.Worlds.{World};
+ghost use Rattle.td_plan.specs.code.Plans.{bound, plan_value, plan_where_bound, slots_before};
 ghost use Rattle.td_plan.specs.code.Bindings.{IsBehind, IsEntered, IsHoisted, IsMemoFrom};
 ghost use Rattle.td_plan.specs.code.Bindings.{where_in_slot};
 ghost use Rattle.td_plan.specs.code.Evaluators.{IsReadyAt, IsReadyInRows, IsReadyInside};
@@ -12,14 +12,14 @@ ghost use Rattle.td_plan.specs.code.Hands.{slots_in, slots_of};
 ghost use Rattle.td_plan.specs.code.Memos.{IsMemo, IsMemoBelow, IsSound, Parts};
 ghost use Rattle.td_plan.specs.code.StepHeights.{step_height};
 ghost use Rattle.td_plan.specs.code.StepViews.{step_view, steps_view};
-ghost use Rattle.td_tree.specs.Outcomes.{Answers};
+ghost use Rattle.td_tree.specs.model.Outcomes.{Answers};
 
 use crate::plan::step::Step;
 use crate::running::evaluator::{Evaluator, InWorld};
 use crate::running::hand::{Hand, Inside, all_again, entered, hand_of, put};
 use crate::running::memo::{Memo, forget};
 use std::alloc::{AllocError, Global};
-use td_eval::operators::asked::tuple_in;
+use td_eval::operators::requirements::tuple_in;
 use td_tree::fault::Fault;
 use td_value::tuple::Tuple;
 use td_value::value::Value;

@@ -1,10 +1,10 @@
 //! COUNT and IS_EMPTY of an operand's tuples for which a condition is TRUE. They are counted, and
 //! no relation is made of them.
 ghost use Rattle.std.specs.Prelude.{◌≡◌, count_by, map};
-ghost use Rattle.td_eval.specs.OperatorValues.{measure_value, restricted_value, truth_value};
-ghost use Rattle.td_plan.specs.Counted.{number_measured};
-ghost use Rattle.td_tree.specs.Outcomes.{Answers, Outcome, gathered, with_value};
-ghost use Rattle.td_value.specs.Values.{Relation, Tuple, Val};
+ghost use Rattle.td_eval.specs.model.OperatorValues.{measure_value, restricted_value, truth_value};
+ghost use Rattle.td_plan.specs.code.Counted.{number_measured};
+ghost use Rattle.td_tree.specs.model.Outcomes.{Answers, Outcome, gathered, with_value};
+ghost use Rattle.td_value.specs.model.Values.{Relation, Tuple, Val};
 
 use td_tree::fault::Fault;
 use td_tree::operator::Measure;

@@ -1,13 +1,13 @@
 //! What values steps. Each function takes what values the parts of a step as a parameter, so that
 //! it is proved by itself.
 ghost use Rattle.std.specs.Prelude.{◌≡◌, IfOk, IfSome};
-ghost use Rattle.td_eval.specs.Worlds.{World};
+ghost use Rattle.td_eval.specs.model.Worlds.{World};
 ghost use Rattle.td_plan.specs.code.Evaluators.{IsReadyAt, KeepsFor, Runs, RunsBelow, SoundFor};
 ghost use Rattle.td_plan.specs.code.Evaluators.{SoundForAll, height_over, height_over_all};
 ghost use Rattle.td_plan.specs.code.Partners.{HasTuples, IsValueBeside};
 ghost use Rattle.td_plan.specs.code.Runs.{step_values};
 ghost use Rattle.td_plan.specs.code.StepViews.{dyadic_view, step_view};
-ghost use Rattle.td_tree.specs.Outcomes.{Answers, gathered};
+ghost use Rattle.td_tree.specs.model.Outcomes.{Answers, gathered};
 
 use crate::plan::step::{Dyadic, Step};
 use crate::running::hand::Hand;

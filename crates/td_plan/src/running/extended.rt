@@ -1,13 +1,13 @@
 //! The tuples of a relation with attributes set, each there before or new.
 ghost use Rattle.std.specs.Prelude.{◌≡◌, IfOk, List, length, not};
 ghost use Rattle.std.specs.List.{list_all};
-ghost use Rattle.td_algebra.specs.Columns.{columns_view};
+ghost use Rattle.td_algebra.specs.code.Columns.{columns_view};
 ghost use Rattle.td_eval.specs.code.NewColumns.{AreColumnsFor, named_columns};
-ghost use Rattle.td_eval.specs.OperatorValues.{extended_by_settings};
-ghost use Rattle.td_tree.specs.Outcomes.{Answers, Outcome, Valued, gathered};
-ghost use Rattle.td_types.specs.Headings.{has_attribute};
+ghost use Rattle.td_eval.specs.model.OperatorValues.{extended_by_settings};
+ghost use Rattle.td_tree.specs.model.Outcomes.{Answers, Outcome, Valued, gathered};
+ghost use Rattle.td_types.specs.model.Headings.{has_attribute};
 ghost use Rattle.td_types.specs.code.Views.{pairs_view};
-ghost use Rattle.td_value.specs.Values.{Tuple, Val};
+ghost use Rattle.td_value.specs.model.Values.{Tuple, Val};
 
 use std::alloc::Global;
 use td_algebra::extension::Column;

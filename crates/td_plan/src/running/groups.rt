@@ -5,7 +5,7 @@ ghost use Rattle.td_eval.specs.code.Totals.{total_of, total_view};
 ghost use Rattle.td_plan.specs.code.Evaluators.{IsReadyInside, KeepsInside, RunsBelow, SoundFor};
 ghost use Rattle.td_plan.specs.code.Evaluators.{SoundForAll, height_over, height_over_all};
 ghost use Rattle.td_plan.specs.code.Runs.{value_in, values_in};
-ghost use Rattle.td_tree.specs.Outcomes.{Answers, gathered};
+ghost use Rattle.td_tree.specs.model.Outcomes.{Answers, gathered};
 
 use crate::plan::step::Step;
 use crate::running::evaluator::{Evaluator, InWorld};

@@ -1,11 +1,11 @@
 //! The tuples in scope.
 ghost use Rattle.std.specs.Prelude.{◌≡◌, ◌<◌, ◌≤◌, IfOk, OnOk, length, option_map, slice_set};
 ghost use Rattle.std.specs.List.{slice_get};
-ghost use Rattle.td_eval.specs.Worlds.{World};
-ghost use Rattle.td_plan.specs.Plans.{value_or, with_slot};
+ghost use Rattle.td_eval.specs.model.Worlds.{World};
+ghost use Rattle.td_plan.specs.code.Plans.{value_or, with_slot};
 ghost use Rattle.td_plan.specs.code.Hands.{cells_lent, cells_of, slots_in, slots_inside, slots_of};
 ghost use Rattle.td_plan.specs.code.Memos.{IsMemo, IsMemoBelow, Parts};
-ghost use Rattle.td_tree.specs.Outcomes.{Answers};
+ghost use Rattle.td_tree.specs.model.Outcomes.{Answers};
 
 use crate::running::memo::{Memo, forget};
 use std::alloc::{AllocError, Global};
@@ -39,7 +39,7 @@ pub(crate) struct Batch<'b> {
 }
 
 /// What is found in each of the tuples without causes, if it is in all.
-pub(crate) type Found<T> = Option<Vec<T>>;
+pub(crate) type QuickColumn<T> = Option<Vec<T>>;
 
 /// The tuple in a slot further out.
 #[inline]

@@ -2,8 +2,8 @@
 ghost use Rattle.std.specs.Prelude.{◌≡◌, ◌<◌, ◌≤◌, List, Some, length, map};
 ghost use Rattle.std.specs.List.{slice_get, zip};
 ghost use Rattle.td_eval.specs.code.Totals.{total_view};
-ghost use Rattle.td_tree.specs.Outcomes.{Answers, Outcome, Valued, with_value};
-ghost use Rattle.td_value.specs.Values.{Val};
+ghost use Rattle.td_tree.specs.model.Outcomes.{Answers, Outcome, Valued, with_value};
+ghost use Rattle.td_value.specs.model.Values.{Val};
 
 use crate::plan::step::Step;
 use td_group::aggregates::Agg;

@@ -1,27 +1,27 @@
 //! Tuples of relvars that are found by a key.
 ghost use Rattle.std.specs.Prelude.{◌≡◌, IfOk, IfSome, IsTrue, Some, false, map};
 ghost use Rattle.std.specs.List.{slice_get};
-ghost use Rattle.td_body.specs.Bodies.{agreeing};
+ghost use Rattle.td_body.specs.model.Bodies.{agreeing};
 ghost use Rattle.td_catalog.specs.code.CatalogViews.{IsEntry};
-ghost use Rattle.td_eval.specs.DatabaseWorlds.{world_of};
-ghost use Rattle.td_eval.specs.OperatorValues.{of_relation};
-ghost use Rattle.td_eval.specs.code.Sights.{world_in};
-ghost use Rattle.td_eval.specs.Worlds.{known_outcome};
-ghost use Rattle.td_plan.specs.code.Hands.{AreSurroundings, world_around};
-ghost use Rattle.td_plan.specs.Plans.{agreeing_value, looked_up};
-ghost use Rattle.td_tree.specs.Outcomes.{Answers, Outcome, with_value};
-ghost use Rattle.td_types.specs.Headings.{projection};
-ghost use Rattle.td_value.specs.Agreement.{agree_on};
-ghost use Rattle.td_value.specs.Values.{Val, heading_of};
+ghost use Rattle.td_eval.specs.model.DatabaseWorlds.{world_of};
+ghost use Rattle.td_eval.specs.model.OperatorValues.{of_relation};
+ghost use Rattle.td_eval.specs.code.LentWorlds.{world_in};
+ghost use Rattle.td_eval.specs.model.Worlds.{known_outcome};
+ghost use Rattle.td_plan.specs.code.Hands.{IsPlanWorld, world_around};
+ghost use Rattle.td_plan.specs.code.Plans.{agreeing_value, looked_up};
+ghost use Rattle.td_tree.specs.model.Outcomes.{Answers, Outcome, with_value};
+ghost use Rattle.td_types.specs.model.Headings.{projection};
+ghost use Rattle.td_value.specs.model.Agreement.{agree_on};
+ghost use Rattle.td_value.specs.model.Values.{Val, heading_of};
 
-use crate::running::surroundings::{Surroundings, relvar_value};
+use crate::running::plan_world::{PlanWorld, relvar_value};
 use std::alloc::{AllocError, Global};
 use td_algebra::restriction::restrict;
 use td_body::body::Body;
 use td_catalog::entry::BaseEntry;
 use td_eval::env::Env;
-use td_eval::operators::asked::{relation_in, tuple_in};
 use td_eval::operators::relational::as_value;
+use td_eval::operators::requirements::{relation_in, tuple_in};
 use td_tree::fault::Fault;
 use td_tree::name::Name;
 use td_types::heading::Heading;
@@ -133,12 +133,12 @@ fn agreeing_tuples(alloc: Global, rel: &Rel, key: &[Name], part: &Tuple) -> Resu
 /// The tuples of the relvar of the name that agree with the part on the names of the key. A base
 /// relvar's are found by its key.
 fn agreeing_value<B: Body>(
-    around: &Surroundings<'_, '_, '_, B>,
+    around: &PlanWorld<'_, '_, '_, B>,
     name: &Name,
     key: &[Name],
     part: &Tuple,
 ) -> Result<Value, Fault>
-    requires { AreSurroundings around.now }
+    requires { IsPlanWorld around.now }
     ensures { Answers (λ v. v) result (agreeing_value key.now
         (known_outcome ((world_around around.now).relvar name.now)) part.now) }
 {
@@ -153,12 +153,12 @@ fn agreeing_value<B: Body>(
 
 /// The tuples of the relvar that agree on the key with the tuple that is the part's value.
 pub(crate) fn look_up<B: Body>(
-    around: &Surroundings<'_, '_, '_, B>,
+    around: &PlanWorld<'_, '_, '_, B>,
     name: &Name,
     key: &[Name],
     part: Result<Value, Fault>,
 ) -> Result<Value, Fault>
-    requires { AreSurroundings around.now }
+    requires { IsPlanWorld around.now }
     ensures { (o : Outcome Val) → Answers (λ v. v) part o
         → Answers (λ v. v) result (with_value o
         (looked_up key.now (known_outcome ((world_around around.now).relvar name.now)))) }

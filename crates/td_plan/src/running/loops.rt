@@ -2,8 +2,8 @@
 //! evaluated first.
 ghost use Rattle.std.specs.Prelude.{◌≡◌, max, suc};
 ghost use Rattle.std.specs.List.{zip};
-ghost use Rattle.td_plan.specs.Plans.{aggregate, choice, dyadic, extend, measure, monadic};
-ghost use Rattle.td_plan.specs.Plans.{restriction, summarize_by, summarize_per, summary_of};
+ghost use Rattle.td_plan.specs.code.Plans.{aggregate, choice, dyadic, extend, measure, monadic};
+ghost use Rattle.td_plan.specs.code.Plans.{restriction, summarize_by, summarize_per, summary_of};
 ghost use Rattle.td_plan.specs.code.Evaluators.{IsReadyAt, KeepsFor, Runs, RunsBelow, SoundFor};
 ghost use Rattle.td_plan.specs.code.Evaluators.{SoundForAll, SoundForBoth, SoundForOneAndAll};
 ghost use Rattle.td_plan.specs.code.Evaluators.{height_over, height_over_all, height_over_both};
@@ -12,9 +12,9 @@ ghost use Rattle.td_plan.specs.code.Memos.{AreSound, IsSound};
 ghost use Rattle.td_plan.specs.code.Runs.{values_in};
 ghost use Rattle.td_plan.specs.code.StepHeights.{step_height, steps_height};
 ghost use Rattle.td_plan.specs.code.StepViews.{dyadic_view, step_view, steps_view};
-ghost use Rattle.td_eval.specs.OperatorValues.{measure_value};
-ghost use Rattle.td_tree.specs.Outcomes.{Answers, Outcome, with_value};
-ghost use Rattle.td_value.specs.Values.{Val};
+ghost use Rattle.td_eval.specs.model.OperatorValues.{measure_value};
+ghost use Rattle.td_tree.specs.model.Outcomes.{Answers, Outcome, with_value};
+ghost use Rattle.td_value.specs.model.Values.{Val};
 ghost use Rattle.td_tree.specs.code.TreeViews.{attributes_view};
 ghost use Rattle.td_types.specs.code.Views.{pairs_view};
 
@@ -27,10 +27,10 @@ use crate::running::items::item_count;
 use crate::running::memo::Memo;
 use crate::running::operators::value_of_dyadic;
 use td_eval::operators::aggregates::value_of_aggregate;
-use td_eval::operators::asked::relation_in;
 use td_eval::operators::operand::measure_value;
 use td_eval::operators::postfix::projected_by;
 use td_eval::operators::relational::relations;
+use td_eval::operators::requirements::relation_in;
 use td_eval::operators::summaries::{groups_by_per, summary_by};
 use td_eval::operators::tuplewise::restriction_value;
 use td_eval::rows::truth_of;

@@ -4,8 +4,8 @@ ghost use Rattle.std.specs.HashSet.{contains};
 ghost use Rattle.std.specs.List.Sorted.{IsPermutation, IsStrictlySortedBy};
 ghost use Rattle.std.specs.Ordering.{eq_by_cmp, int_cmp};
 ghost use Rattle.td_algebra.specs.code.Layouts.{numbered_sources};
-ghost use Rattle.td_eval.specs.OperatorValues.{comparison_value};
-ghost use Rattle.td_eval.specs.Worlds.{World};
+ghost use Rattle.td_eval.specs.model.OperatorValues.{comparison_value};
+ghost use Rattle.td_eval.specs.model.Worlds.{World};
 ghost use Rattle.td_plan.specs.code.Hands.{slots_of};
 ghost use Rattle.td_plan.specs.code.Memberships.{AreAllBelow, AreMemberships, IsPutInHand};
 ghost use Rattle.td_plan.specs.code.Memberships.{tuple_inside};
@@ -16,15 +16,15 @@ ghost use Rattle.td_plan.specs.code.QuickInside.{value_inside};
 ghost use Rattle.td_plan.specs.code.Runs.{step_values};
 ghost use Rattle.td_plan.specs.declared.running.hand.Inside.{Inside};
 ghost use Rattle.td_tree.specs.declared.operator.Comparison.TheVariants as comparisons;
-ghost use Rattle.td_tree.specs.Outcomes.{Outcome, Valued, gathered, with_value};
-ghost use Rattle.td_types.specs.Headings.{are_distinct};
-ghost use Rattle.td_types.specs.Types as types;
-ghost use Rattle.td_value.specs.Sets.{has};
-ghost use Rattle.td_value.specs.Values.{Tuple, Val, boolean, relation_value, tuple_cmp};
-ghost use Rattle.td_value.specs.Values.{tuple_value};
+ghost use Rattle.td_tree.specs.model.Outcomes.{Outcome, Valued, gathered, with_value};
+ghost use Rattle.td_types.specs.model.Headings.{are_distinct};
+ghost use Rattle.td_types.specs.model.Types as types;
+ghost use Rattle.td_value.specs.model.Sets.{has};
+ghost use Rattle.td_value.specs.model.Values.{Tuple, Val, boolean, relation_value, tuple_cmp};
+ghost use Rattle.td_value.specs.model.Values.{tuple_value};
 
 use crate::plan::step::{Dyadic, Selector, Step};
-use crate::running::hand::{Batch, Found, Hand, hand_inside};
+use crate::running::hand::{Batch, Hand, QuickColumn, hand_inside};
 use crate::running::memo::{Memo, lent_answer};
 use crate::running::quick::quick_value;
 use crate::running::quick_numbers::{attribute_numbers, quick_numbers};
@@ -95,7 +95,12 @@ fn put_tuple(
 }
 
 /// The tuples that give the names the values of the parts in each of the rows.
-fn tuples_of(batch: &Batch<'_>, names: &[Name], parts: &[Step], layout: &Layout) -> Found<Tuple>
+fn tuples_of(
+    batch: &Batch<'_>,
+    names: &[Name],
+    parts: &[Step],
+    layout: &Layout,
+) -> QuickColumn<Tuple>
     requires distinct { IsTrue (are_distinct names.now) }
     requires places { IsPermutation (numbered_sources 0 names.now) layout.now }
     ensures { (ps : Parts) (w : World) → AreSound ps parts.now
@@ -124,7 +129,7 @@ fn hashed_tuples(alloc: Global, rows: &[Tuple]) -> Result<HashSet<Tuple>, AllocE
 }
 
 /// Which of the tuples are members of the relation, if all are of its heading.
-fn members_among(alloc: Global, tuples: &[Tuple], rel: &Rel) -> Found<bool>
+fn members_among(alloc: Global, tuples: &[Tuple], rel: &Rel) -> QuickColumn<bool>
     ensures { (f : Tuple → Outcome Val) (ts : List Tuple) → AreInRows tuple_value f ts tuples.now
         → AreQuick boolean (λ t. with_value (f t)
         (λ v. comparison_value comparisons.In v (relation_value rel.now))) ts result }
@@ -197,7 +202,7 @@ fn told_at(members: &[i64], place: usize, number: i64) -> Option<bool>
 }
 
 /// Which of the numbers are among members that ascend, if the numbers do so too.
-fn merged_memberships(alloc: Global, numbers: &[i64], members: &[i64]) -> Found<bool>
+fn merged_memberships(alloc: Global, numbers: &[i64], members: &[i64]) -> QuickColumn<bool>
     requires { IsStrictlySortedBy int_cmp members.now }
     ensures { IfSome result (λ truths.
         truths.items ≡ map (λ z. has int_cmp z members.now) numbers.now) }
@@ -213,7 +218,7 @@ fn merged_memberships(alloc: Global, numbers: &[i64], members: &[i64]) -> Found<
 }
 
 /// Which of the numbers are among members that ascend.
-fn numbers_among(alloc: Global, numbers: &[i64], members: &[i64]) -> Found<bool>
+fn numbers_among(alloc: Global, numbers: &[i64], members: &[i64]) -> QuickColumn<bool>
     requires { IsStrictlySortedBy int_cmp members.now }
     ensures { IfSome result (λ truths.
         truths.items ≡ map (λ z. has int_cmp z members.now) numbers.now) }
@@ -241,7 +246,12 @@ fn is_one_number(heading: &Heading, name: &Name) -> bool
 
 /// The truth values of IN the relation, where tuple and relation have one attribute each, and all
 /// that it has are numbers.
-fn number_memberships(batch: &Batch<'_>, names: &[Name], parts: &[Step], rel: &Rel) -> Found<bool>
+fn number_memberships(
+    batch: &Batch<'_>,
+    names: &[Name],
+    parts: &[Step],
+    rel: &Rel,
+) -> QuickColumn<bool>
     ensures { AreMemberships batch.now names.now parts.now rel.now result }
 {
     let [name] = names else {
@@ -260,7 +270,7 @@ fn number_memberships(batch: &Batch<'_>, names: &[Name], parts: &[Step], rel: &R
 
 /// The truth values of IN the relation, for the tuples that give the names the values of the parts
 /// in each of the rows.
-fn memberships_of(batch: &Batch<'_>, names: &[Name], parts: &[Step], rel: &Rel) -> Found<bool>
+fn memberships_of(batch: &Batch<'_>, names: &[Name], parts: &[Step], rel: &Rel) -> QuickColumn<bool>
     ensures { AreMemberships batch.now names.now parts.now rel.now result }
 {
     if let Some(truths) = number_memberships(batch, names, parts, rel) {
@@ -272,7 +282,7 @@ fn memberships_of(batch: &Batch<'_>, names: &[Name], parts: &[Step], rel: &Rel) 
 }
 
 /// The truth values of IN, where a tuple of parts is looked for in one relation for all rows.
-fn memberships_in(batch: &Batch<'_>, left: &Step, right: &Step) -> Found<bool>
+fn memberships_in(batch: &Batch<'_>, left: &Step, right: &Step) -> QuickColumn<bool>
     ensures { AreComparedIn batch.now left.now comparisons.In right.now result }
 {
     let value = common_value(batch.memo, right)?;
@@ -289,7 +299,7 @@ fn memberships_in(batch: &Batch<'_>, left: &Step, right: &Step) -> Found<bool>
 }
 
 /// The truth values of a condition that is such an IN.
-pub(crate) fn memberships(batch: &Batch<'_>, condition: &Step) -> Found<bool>
+pub(crate) fn memberships(batch: &Batch<'_>, condition: &Step) -> QuickColumn<bool>
     ensures { FoundIn boolean batch.now condition.now result }
 {
     match condition {

@@ -1,13 +1,13 @@
 //! The answers of parts of a plan that are kept while it is run.
 ghost use Rattle.std.specs.Prelude.{◌≡◌, ◌<◌, false, IfOk, IfSome, length, slice_set};
 ghost use Rattle.std.specs.List.{slice_get};
-ghost use Rattle.td_eval.specs.Worlds.{World};
-ghost use Rattle.td_plan.specs.Plans.{Slots, plan_value};
+ghost use Rattle.td_eval.specs.model.Worlds.{World};
+ghost use Rattle.td_plan.specs.code.Plans.{Slots, plan_value};
 ghost use Rattle.td_plan.specs.code.Memos.{AgreeBelow, AreKept, AreWithin, IsMemo, IsMemoBelow};
 ghost use Rattle.td_plan.specs.code.Memos.{IsWithin, Parts, Reaches};
 ghost use Rattle.td_plan.specs.code.Quick.{IsQuick};
-ghost use Rattle.td_tree.specs.Outcomes.{Answers, Outcome};
-ghost use Rattle.td_value.specs.Values.{Val};
+ghost use Rattle.td_tree.specs.model.Outcomes.{Answers, Outcome};
+ghost use Rattle.td_value.specs.model.Values.{Val};
 
 use std::alloc::{AllocError, Global};
 use td_tree::fault::Fault;

@@ -1,17 +1,17 @@
 //! The values of operators, by what is answered of their operands.
 ghost use Rattle.std.specs.Prelude.{◌≡◌, IfOk, List};
 ghost use Rattle.std.specs.List.{zip};
-ghost use Rattle.td_plan.specs.Plans.{dyadic_value, monadic_value, selected_value};
+ghost use Rattle.td_plan.specs.code.Plans.{dyadic_value, monadic_value, selected_value};
 ghost use Rattle.td_plan.specs.code.Hands.{world_around};
 ghost use Rattle.td_plan.specs.code.StepViews.{dyadic_view, monadic_view, selector_view};
-ghost use Rattle.td_tree.specs.Outcomes.{Answers, Outcome, with_both, with_value};
-ghost use Rattle.td_value.specs.Values.{Val};
+ghost use Rattle.td_tree.specs.model.Outcomes.{Answers, Outcome, with_both, with_value};
+ghost use Rattle.td_value.specs.model.Values.{Val};
 
 use crate::plan::step::{Dyadic, Monadic, Selector};
-use crate::running::surroundings::Surroundings;
+use crate::running::plan_world::PlanWorld;
 use std::alloc::{AllocError, Global};
 use td_body::body::Body;
-use td_eval::known::selected_in;
+use td_eval::names::selected_in;
 use td_eval::operators::between::value_of_operator;
 use td_eval::operators::comparisons::value_of_comparison;
 use td_eval::operators::elements::{listed_value, tuple_from, value_of_headed};
@@ -23,7 +23,7 @@ use td_value::value::Value;
 
 /// The value of an operator of one operand.
 fn monadic_value<B: Body>(
-    around: &Surroundings<'_, '_, '_, B>,
+    around: &PlanWorld<'_, '_, '_, B>,
     op: &Monadic,
     operand: &Value,
 ) -> Result<Value, Fault>
@@ -42,7 +42,7 @@ fn monadic_value<B: Body>(
 /// The value of an operator of what is answered of its operand.
 #[inline(never)]
 pub(crate) fn value_of_monadic<B: Body>(
-    around: &Surroundings<'_, '_, '_, B>,
+    around: &PlanWorld<'_, '_, '_, B>,
     op: &Monadic,
     operand: Result<Value, Fault>,
 ) -> Result<Value, Fault>
@@ -92,7 +92,7 @@ fn entries_of(
 
 /// What a selector makes of the values of its parts.
 fn selected_value<B: Body>(
-    around: &Surroundings<'_, '_, '_, B>,
+    around: &PlanWorld<'_, '_, '_, B>,
     selector: &Selector,
     values: Vec<Value>,
 ) -> Result<Value, Fault>
@@ -114,7 +114,7 @@ fn selected_value<B: Body>(
 /// What a selector makes of what is answered of its parts.
 #[inline(never)]
 pub(crate) fn value_of_selector<B: Body>(
-    around: &Surroundings<'_, '_, '_, B>,
+    around: &PlanWorld<'_, '_, '_, B>,
     selector: &Selector,
     values: Result<Vec<Value>, Fault>,
 ) -> Result<Value, Fault>

@@ -2,34 +2,34 @@
 //! of the relation has a partner there is looked up by the key: no other tuple is read.
 ghost use Rattle.std.specs.Prelude.{◌≡◌, Bool, IfOk, IfSome, IsTrue, Some, length, map, not};
 ghost use Rattle.std.specs.List.{All, list_all, slice_get};
-ghost use Rattle.td_algebra.specs.Operators.{common_names};
+ghost use Rattle.td_algebra.specs.model.Operators.{common_names};
 ghost use Rattle.td_catalog.specs.code.CatalogViews.{IsEntry};
-ghost use Rattle.td_eval.specs.OperatorValues.{of_relation, postfix_value};
-ghost use Rattle.td_eval.specs.code.Sights.{world_in};
-ghost use Rattle.td_eval.specs.Worlds.{known_outcome};
-ghost use Rattle.td_plan.specs.Plans.{dyadic_value, postfix};
+ghost use Rattle.td_eval.specs.model.OperatorValues.{of_relation, postfix_value};
+ghost use Rattle.td_eval.specs.code.LentWorlds.{world_in};
+ghost use Rattle.td_eval.specs.model.Worlds.{known_outcome};
+ghost use Rattle.td_plan.specs.code.Plans.{dyadic_value, postfix};
 ghost use Rattle.td_plan.specs.code.Hands.{world_around};
 ghost use Rattle.td_plan.specs.code.Partners.{IsPartOn, IsValueBeside, asked_value, has_partner};
 ghost use Rattle.td_plan.specs.code.StepViews.{dyadic_view, monadic_view, step_view};
-ghost use Rattle.td_tree.specs.Outcomes.{Answers, Outcome, Valued, with_value};
-ghost use Rattle.td_tree.specs.Trees.{only, project};
-ghost use Rattle.td_types.specs.Headings.{agree, projection};
-ghost use Rattle.td_types.specs.Types.{Heading, attribute_names};
-ghost use Rattle.td_value.specs.Sets.{has};
-ghost use Rattle.td_value.specs.Values.{IsRelation, Relation, Tuple, heading_of};
-ghost use Rattle.td_value.specs.Values.{projected_tuple};
-ghost use Rattle.td_value.specs.Values.{relation_value, tuple_cmp};
+ghost use Rattle.td_tree.specs.model.Outcomes.{Answers, Outcome, Valued, with_value};
+ghost use Rattle.td_tree.specs.model.Trees.{only, project};
+ghost use Rattle.td_types.specs.model.Headings.{agree, projection};
+ghost use Rattle.td_types.specs.model.Types.{Heading, attribute_names};
+ghost use Rattle.td_value.specs.model.Sets.{has};
+ghost use Rattle.td_value.specs.model.Values.{IsRelation, Relation, Tuple, heading_of};
+ghost use Rattle.td_value.specs.model.Values.{projected_tuple};
+ghost use Rattle.td_value.specs.model.Values.{relation_value, tuple_cmp};
 
 use crate::plan::step::{Dyadic, Monadic, Step};
 use crate::running::look_up::base_in;
+use crate::running::plan_world::PlanWorld;
 use crate::running::quick_rows::negations;
-use crate::running::surroundings::Surroundings;
 use std::alloc::{AllocError, Global};
 use td_algebra::restriction::restrict;
 use td_body::body::Body;
 use td_catalog::entry::BaseEntry;
 use td_eval::env::Env;
-use td_eval::operators::asked::relation_in;
+use td_eval::operators::requirements::relation_in;
 use td_tree::expression::{Attributes, Postfix};
 use td_tree::fault::Fault;
 use td_tree::name::Name;
@@ -233,7 +233,7 @@ fn value_by_partners<B: Body>(
 
 /// The value of an operator between a relation and a projection of the base relvar of the name.
 fn value_beside_projection<B: Body>(
-    around: &Surroundings<'_, '_, '_, B>,
+    around: &PlanWorld<'_, '_, '_, B>,
     rel: &Rel,
     op: Dyadic,
     name: &Name,
@@ -261,7 +261,7 @@ fn value_beside_projection<B: Body>(
 
 /// The value of an operator between a relation and the base relvar of the name.
 fn value_beside_relvar<B: Body>(
-    around: &Surroundings<'_, '_, '_, B>,
+    around: &PlanWorld<'_, '_, '_, B>,
     rel: &Rel,
     op: Dyadic,
     name: &Name,
@@ -301,7 +301,7 @@ fn listed_names(op: &Monadic) -> Option<&[Name]>
 /// The value of an operator between a value and what a step gives, where the step is a base relvar
 /// or a projection of one, and partners in it are found by a key.
 pub(crate) fn value_by_key<B: Body>(
-    around: &Surroundings<'_, '_, '_, B>,
+    around: &PlanWorld<'_, '_, '_, B>,
     left: &Value,
     op: Dyadic,
     right: &Step,

@@ -1,13 +1,13 @@
 //! The values of steps that are numbers, truth values or texts, found without causes. Where one is
 //! not found so, or there is none, the step is run.
 ghost use Rattle.std.specs.List.{slice_get};
-ghost use Rattle.td_eval.specs.OperatorValues.{comparison_value, operator_value};
-ghost use Rattle.td_plan.specs.Plans.{value_or};
+ghost use Rattle.td_eval.specs.model.OperatorValues.{comparison_value, operator_value};
+ghost use Rattle.td_plan.specs.code.Plans.{value_or};
 ghost use Rattle.td_plan.specs.code.Hands.{slots_in};
 ghost use Rattle.td_plan.specs.code.Quick.{IsQuick};
 ghost use Rattle.td_plan.specs.code.QuickInside.{IsComparedIn, IsQuickIn};
-ghost use Rattle.td_tree.specs.Outcomes.{Outcome};
-ghost use Rattle.td_value.specs.Values.{Val, boolean, char, integer};
+ghost use Rattle.td_tree.specs.model.Outcomes.{Outcome};
+ghost use Rattle.td_value.specs.model.Values.{Val, boolean, char, integer};
 ghost use Rattle.td_value.specs.code.Views.{values_of};
 
 use crate::plan::step::{Dyadic, Monadic, Step};

@@ -1,21 +1,21 @@
 //! The loop where the tuples of WITH's items are in scope already, found without causes: the answer
 //! of each item is kept.
 ghost use Rattle.std.specs.Prelude.{◌≡◌, IfSome};
-ghost use Rattle.td_eval.specs.OperatorValues.{on_tuple};
-ghost use Rattle.td_eval.specs.Worlds.{World};
-ghost use Rattle.td_plan.specs.Plans.{Slots, plan_where_bound};
+ghost use Rattle.td_eval.specs.model.OperatorValues.{on_tuple};
+ghost use Rattle.td_eval.specs.model.Worlds.{World};
+ghost use Rattle.td_plan.specs.code.Plans.{Slots, plan_where_bound};
 ghost use Rattle.td_plan.specs.code.Bindings.{AreEntered, IsBoundInside, where_in_slot};
 ghost use Rattle.td_plan.specs.code.Hands.{slots_in};
 ghost use Rattle.td_plan.specs.code.Memos.{AreSound, IsMemo, IsMemoBelow, IsSound, Parts};
 ghost use Rattle.td_plan.specs.code.Runs.{step_value};
 ghost use Rattle.td_plan.specs.code.StepViews.{steps_view};
-ghost use Rattle.td_tree.specs.Outcomes.{Valued, with_value};
+ghost use Rattle.td_tree.specs.model.Outcomes.{Valued, with_value};
 
 use crate::plan::step::Step;
 use crate::running::bound::again_before;
 use crate::running::hand::{Batch, Inside, put};
 use crate::running::memo::{Memo, lent_answer};
-use td_eval::operators::asked::tuple_in;
+use td_eval::operators::requirements::tuple_in;
 use td_value::tuple::Tuple;
 
 /// The tuple that is a step's value, if its answer is kept.

@@ -2,16 +2,16 @@
 //! found so, there is nothing.
 ghost use Rattle.std.specs.Prelude.{◌≡◌, List, length};
 ghost use Rattle.std.specs.List.{slice_get};
-ghost use Rattle.td_eval.specs.OperatorValues.{operator_value};
-ghost use Rattle.td_plan.specs.Plans.{value_or};
+ghost use Rattle.td_eval.specs.model.OperatorValues.{operator_value};
+ghost use Rattle.td_plan.specs.code.Plans.{value_or};
 ghost use Rattle.td_plan.specs.code.Quick.{AreOfBoth, AreQuick, IsQuick};
 ghost use Rattle.td_plan.specs.code.QuickInside.{FoundIn};
-ghost use Rattle.td_tree.specs.Outcomes.{Outcome};
-ghost use Rattle.td_value.specs.Values.{Tuple, Val, integer};
+ghost use Rattle.td_tree.specs.model.Outcomes.{Outcome};
+ghost use Rattle.td_value.specs.model.Values.{Tuple, Val, integer};
 ghost use Rattle.td_value.specs.code.Views.{values_of};
 
 use crate::plan::step::{Dyadic, Step};
-use crate::running::hand::{Batch, Found, hand_inside};
+use crate::running::hand::{Batch, QuickColumn, hand_inside};
 use crate::running::quick::{lent_value, number_in, numbers_operated, outer_value, quick_number};
 use crate::running::quick_bound::quick_behind;
 use std::alloc::Global;
@@ -20,7 +20,7 @@ use td_value::tuple::Tuple;
 use td_value::value::Value;
 
 /// A number that was found once, for each tuple.
-fn same_numbers(alloc: Global, found: Option<&Value>, count: usize) -> Found<i64>
+fn same_numbers(alloc: Global, found: Option<&Value>, count: usize) -> QuickColumn<i64>
     ensures { (o : Outcome Val) (ts : List Tuple)
         → IsQuick (λ v. v.now) found.entry o → length ts ≡ count
         → AreQuick integer (λ t. o) ts result }
@@ -30,7 +30,7 @@ fn same_numbers(alloc: Global, found: Option<&Value>, count: usize) -> Found<i64
 }
 
 /// The numbers that are an attribute of the tuples.
-pub(crate) fn attribute_numbers(alloc: Global, rows: &[Tuple], place: usize) -> Found<i64>
+pub(crate) fn attribute_numbers(alloc: Global, rows: &[Tuple], place: usize) -> QuickColumn<i64>
     ensures { AreQuick integer (λ t. value_or (slice_get (values_of t) place)) rows.now result }
 {
     let mut numbers = Vec::with_capacity(alloc, rows.len()).ok()?;
@@ -42,7 +42,7 @@ pub(crate) fn attribute_numbers(alloc: Global, rows: &[Tuple], place: usize) -> 
 }
 
 /// The numbers that a step gives, by each tuple alone.
-fn single_numbers(batch: &Batch<'_>, step: &Step) -> Found<i64>
+fn single_numbers(batch: &Batch<'_>, step: &Step) -> QuickColumn<i64>
     ensures { FoundIn integer batch.now step.now result }
 {
     let mut numbers = Vec::with_capacity(batch.alloc, batch.rows.len()).ok()?;
@@ -55,7 +55,7 @@ fn single_numbers(batch: &Batch<'_>, step: &Step) -> Found<i64>
 }
 
 /// The numbers that an operator gives of two at each place.
-fn numbers_of_both(alloc: Global, op: Operator, left: &[i64], right: &[i64]) -> Found<i64>
+fn numbers_of_both(alloc: Global, op: Operator, left: &[i64], right: &[i64]) -> QuickColumn<i64>
     ensures { AreOfBoth integer integer (operator_value op) left.now right.now result }
 {
     if left.len() != right.len() {
@@ -70,7 +70,7 @@ fn numbers_of_both(alloc: Global, op: Operator, left: &[i64], right: &[i64]) -> 
 }
 
 /// The numbers that a step gives in tuples.
-pub(crate) fn quick_numbers(batch: &Batch<'_>, step: &Step) -> Found<i64>
+pub(crate) fn quick_numbers(batch: &Batch<'_>, step: &Step) -> QuickColumn<i64>
     ensures { FoundIn integer batch.now step.now result }
 {
     match step {

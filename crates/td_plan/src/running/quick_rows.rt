@@ -1,13 +1,13 @@
 //! Truth values of a condition in all tuples of a relation, found without causes. Where one is not
 //! found so, there is nothing.
 ghost use Rattle.std.specs.Prelude.{◌≡◌, IfOk, map, not};
-ghost use Rattle.td_eval.specs.OperatorValues.{comparison_value, operator_value};
+ghost use Rattle.td_eval.specs.model.OperatorValues.{comparison_value, operator_value};
 ghost use Rattle.td_plan.specs.code.Quick.{AreOfBoth};
 ghost use Rattle.td_plan.specs.code.QuickInside.{AreComparedIn, FoundIn};
-ghost use Rattle.td_value.specs.Values.{boolean, integer};
+ghost use Rattle.td_value.specs.model.Values.{boolean, integer};
 
 use crate::plan::step::{Dyadic, Monadic, Step};
-use crate::running::hand::{Batch, Found, hand_inside};
+use crate::running::hand::{Batch, QuickColumn, hand_inside};
 use crate::running::memberships::memberships;
 use crate::running::quick::{numbers_compared, quick_truth, truths_operated};
 use crate::running::quick_bound::quick_behind;
@@ -23,7 +23,7 @@ pub(crate) const FEWEST: usize = 16;
 const PART: usize = 512;
 
 /// The truth values that a condition gives, by each tuple alone.
-fn single_truths(batch: &Batch<'_>, condition: &Step) -> Found<bool>
+fn single_truths(batch: &Batch<'_>, condition: &Step) -> QuickColumn<bool>
     ensures { FoundIn boolean batch.now condition.now result }
 {
     let mut truths = Vec::with_capacity(batch.alloc, batch.rows.len()).ok()?;
@@ -36,7 +36,12 @@ fn single_truths(batch: &Batch<'_>, condition: &Step) -> Found<bool>
 }
 
 /// The truth values of comparisons of two numbers at each place.
-fn comparisons_of_both(alloc: Global, op: Comparison, left: &[i64], right: &[i64]) -> Found<bool>
+fn comparisons_of_both(
+    alloc: Global,
+    op: Comparison,
+    left: &[i64],
+    right: &[i64],
+) -> QuickColumn<bool>
     ensures { AreOfBoth integer boolean (comparison_value op) left.now right.now result }
 {
     if left.len() != right.len() {
@@ -51,7 +56,7 @@ fn comparisons_of_both(alloc: Global, op: Comparison, left: &[i64], right: &[i64
 }
 
 /// The truth values that an operator gives of two at each place.
-fn truths_of_both(alloc: Global, op: Operator, left: &[bool], right: &[bool]) -> Found<bool>
+fn truths_of_both(alloc: Global, op: Operator, left: &[bool], right: &[bool]) -> QuickColumn<bool>
     ensures { AreOfBoth boolean boolean (operator_value op) left.now right.now result }
 {
     if left.len() != right.len() {
@@ -77,7 +82,12 @@ pub(crate) fn negations(alloc: Global, truths: &[bool]) -> Result<Vec<bool>, All
 }
 
 /// The truth values of a comparison of steps that are numbers in all tuples.
-fn quick_comparisons(batch: &Batch<'_>, left: &Step, op: Comparison, right: &Step) -> Found<bool>
+fn quick_comparisons(
+    batch: &Batch<'_>,
+    left: &Step,
+    op: Comparison,
+    right: &Step,
+) -> QuickColumn<bool>
     ensures { AreComparedIn batch.now left.now op right.now result }
 {
     let left = quick_numbers(batch, left)?;
@@ -86,7 +96,7 @@ fn quick_comparisons(batch: &Batch<'_>, left: &Step, op: Comparison, right: &Ste
 }
 
 /// The truth values that a condition gives in tuples.
-fn truths_in_all(batch: &Batch<'_>, condition: &Step) -> Found<bool>
+fn truths_in_all(batch: &Batch<'_>, condition: &Step) -> QuickColumn<bool>
     ensures { FoundIn boolean batch.now condition.now result }
 {
     match condition {
@@ -127,7 +137,7 @@ fn truths_in_all(batch: &Batch<'_>, condition: &Step) -> Found<bool>
 
 /// The truth values that a condition gives in tuples: at once where it is IN one relation, else
 /// part by part.
-pub(crate) fn quick_truths(batch: &Batch<'_>, condition: &Step) -> Found<bool>
+pub(crate) fn quick_truths(batch: &Batch<'_>, condition: &Step) -> QuickColumn<bool>
     ensures { FoundIn boolean batch.now condition.now result }
 {
     if let Some(truths) = memberships(batch, condition) {

@@ -1,17 +1,17 @@
 //! What plans give in each tuple of a relation.
 ghost use Rattle.std.specs.Prelude.{◌≡◌, length};
-ghost use Rattle.td_algebra.specs.Columns.{columns_view};
+ghost use Rattle.td_algebra.specs.code.Columns.{columns_view};
 ghost use Rattle.td_eval.specs.code.NewColumns.{named_columns};
-ghost use Rattle.td_eval.specs.OperatorValues.{truth_value};
+ghost use Rattle.td_eval.specs.model.OperatorValues.{truth_value};
 ghost use Rattle.td_plan.specs.code.Evaluators.{IsReadyAt, IsReadyInside, KeepsFor, KeepsInside};
 ghost use Rattle.td_plan.specs.code.Evaluators.{Runs, RunsBelow, SoundFor, SoundForAll};
 ghost use Rattle.td_plan.specs.code.Evaluators.{height_over, height_over_all};
 ghost use Rattle.td_plan.specs.code.Runs.{all_of_type, of_type_asked, step_value, truths_in};
 ghost use Rattle.td_plan.specs.code.Runs.{type_asked, value_in, values_in};
 ghost use Rattle.td_plan.specs.code.StepViews.{step_view};
-ghost use Rattle.td_tree.specs.Outcomes.{Answers, Outcome, gathered};
+ghost use Rattle.td_tree.specs.model.Outcomes.{Answers, Outcome, gathered};
 ghost use Rattle.td_types.specs.code.Views.{pairs_view};
-ghost use Rattle.td_value.specs.Values.{Val};
+ghost use Rattle.td_value.specs.model.Values.{Val};
 
 use crate::plan::step::Step;
 use crate::running::evaluator::{Evaluator, InWorld};

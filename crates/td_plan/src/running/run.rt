@@ -1,10 +1,10 @@
 //! The value of a step.
 ghost use Rattle.td_plan.specs.code.Evaluators.{IsReadyAt, Runs, RunsBelow, height_over};
-ghost use Rattle.td_plan.specs.code.Hands.{AreSurroundings, slots_of, world_around};
+ghost use Rattle.td_plan.specs.code.Hands.{IsPlanWorld, slots_of, world_around};
 ghost use Rattle.td_plan.specs.code.Memos.{IsPart, IsReady, IsSound, Keeps};
 ghost use Rattle.td_plan.specs.code.Runs.{step_value};
 ghost use Rattle.td_plan.specs.code.StepViews.{step_view};
-ghost use Rattle.td_tree.specs.Outcomes.{Answers};
+ghost use Rattle.td_tree.specs.model.Outcomes.{Answers};
 
 use crate::plan::step::{Monadic, Step};
 use crate::running::evaluator::{Evaluator, InWorld};
@@ -13,7 +13,7 @@ use crate::running::look_up::look_up;
 use crate::running::loops::Summands;
 use crate::running::memo::{Memo, keep, kept_answer};
 use crate::running::operators::{value_of_monadic, value_of_selector};
-use crate::running::surroundings::{Surroundings, relvar_value};
+use crate::running::plan_world::{PlanWorld, relvar_value};
 use td_body::body::Body;
 use td_tree::fault::Fault;
 use td_value::value::Value;
@@ -51,12 +51,12 @@ where
 
 /// The value of a step. What is answered of its parts is kept as long as it holds.
 pub(crate) fn run<B: Body>(
-    around: &Surroundings<'_, '_, '_, B>,
+    around: &PlanWorld<'_, '_, '_, B>,
     memo: &mut Memo,
     hand: &Hand<'_, '_>,
     step: &Step,
 ) -> Result<Value, Fault>
-    requires around { AreSurroundings around.now }
+    requires around { IsPlanWorld around.now }
     requires ready { IsReady (world_around around.now) (slots_of hand.now) memo.old
         (λ ps. IsSound ps step.now) }
     ensures { Keeps (world_around around.now) (slots_of hand.now) memo.old memo.new

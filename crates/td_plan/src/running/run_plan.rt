@@ -1,15 +1,15 @@
 //! The values of expressions by their plans.
 ghost use Rattle.std.specs.Prelude.{◌≡◌, IfOk};
-ghost use Rattle.td_eval.specs.code.Sights.{tuples_in_hand, world_in};
-ghost use Rattle.td_plan.specs.code.Hands.{AreSurroundings, slots_in, slots_lent, world_around};
+ghost use Rattle.td_eval.specs.code.LentWorlds.{tuples_in_hand, world_in};
+ghost use Rattle.td_plan.specs.code.Hands.{IsPlanWorld, slots_in, slots_lent, world_around};
 ghost use Rattle.td_plan.specs.code.PlanViews.{plan_view};
 ghost use Rattle.td_plan.specs.code.Runs.{AnswersPlan};
 
 use crate::plan::Plan;
 use crate::running::hand::hand_of;
 use crate::running::memo::new_memo;
+use crate::running::plan_world::PlanWorld;
 use crate::running::run::run;
-use crate::running::surroundings::Surroundings;
 use crate::running::virtuals::virtual_relvars;
 use std::alloc::{AllocError, Global};
 use td_body::body::Body;
@@ -31,10 +31,10 @@ fn tuples_in_slots(alloc: Global, tuples: &[&Tuple]) -> Result<Vec<Option<Tuple>
 
 /// What the plan is for, with the virtual relvars that have been evaluated.
 pub(crate) fn run_plan_in<B: Body>(
-    around: &Surroundings<'_, '_, '_, B>,
+    around: &PlanWorld<'_, '_, '_, B>,
     plan: &Plan,
 ) -> Result<Value, Fault>
-    requires { AreSurroundings around.now }
+    requires { IsPlanWorld around.now }
     ensures { AnswersPlan (world_around around.now) (tuples_in_hand around.now.env.now)
         (plan_view plan.now) result }
 {
@@ -48,7 +48,7 @@ pub(crate) fn run_plan_in<B: Body>(
 pub fn run_plan<B: Body>(alloc: Global, env: &Env<'_, B>, plan: &Plan) -> Result<Value, Fault>
     ensures { AnswersPlan (world_in env.now) (tuples_in_hand env.now) (plan_view plan.now) result }
 {
-    let around = Surroundings {
+    let around = PlanWorld {
         alloc,
         env,
         valued: &[],
@@ -65,7 +65,7 @@ pub(crate) fn run_valued<B: Body>(
     ensures { AnswersPlan (world_in env.now) (tuples_in_hand env.now) (plan_view plan.now) result }
 {
     let valued = virtual_relvars(alloc, env, &plan.names)?;
-    let around = Surroundings {
+    let around = PlanWorld {
         alloc,
         env,
         valued: &valued,

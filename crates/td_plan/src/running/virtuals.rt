@@ -1,20 +1,20 @@
 //! The virtual relvars that expressions may need, each of them evaluated once.
 ghost use Rattle.std.specs.Prelude.{◌≡◌, IfOk, IfSome};
-ghost use Rattle.td_eval.specs.DatabaseWorlds.{world_of};
-ghost use Rattle.td_eval.specs.code.Sights.{world_in};
-ghost use Rattle.td_eval.specs.Worlds.{known_outcome};
+ghost use Rattle.td_eval.specs.model.DatabaseWorlds.{world_of};
+ghost use Rattle.td_eval.specs.code.LentWorlds.{world_in};
+ghost use Rattle.td_eval.specs.model.Worlds.{known_outcome};
 ghost use Rattle.td_plan.specs.code.Hands.{AreValued};
-ghost use Rattle.td_tree.specs.Outcomes.{Answers};
+ghost use Rattle.td_tree.specs.model.Outcomes.{Answers};
 
 use crate::making::plans::plan;
+use crate::running::plan_world::{PlanWorld, ValuedRelvar};
 use crate::running::run_plan::run_plan_in;
-use crate::running::surroundings::{Surroundings, ValuedRelvar};
 use std::alloc::{AllocError, Global};
 use td_body::body::Body;
 use td_catalog::catalog::Catalog;
 use td_check::names::names_in;
 use td_eval::env::Env;
-use td_eval::known::relvar_in;
+use td_eval::names::relvar_in;
 use td_tree::expression::Expr;
 use td_tree::fault::Fault;
 use td_tree::name::Name;
@@ -119,7 +119,7 @@ fn relvar_by_plan<'a, B: Body>(
         return relvar_in(alloc, &env, name);
     };
     let plan = plan(alloc, &env, entry.tree.tree())?;
-    let around = Surroundings {
+    let around = PlanWorld {
         alloc,
         env: &env,
         valued,

@@ -4,9 +4,9 @@ use Rattle.std.specs.Prelude.{[], ◌∷◌, length, Option, Some, None, option_
 use Rattle.std.specs.Str.{continuation_len}
 use Rattle.td_tree.specs.declared.piece.Piece.{Piece}
 use Rattle.td_tree.specs.declared.piece.Piece.TheVariants.{Bad}
-use Rattle.td_tree.specs.Pieces.{begins, continues}
-use Rattle.td_tree.specs.Statements.{PlacedToken}
-use Rattle.td_tree.specs.Symbols.{Symbol, symbol_at}
+use Rattle.td_tree.specs.model.Pieces.{begins, continues}
+use Rattle.td_tree.specs.model.Statements.{PlacedToken}
+use Rattle.td_tree.specs.model.Symbols.{Symbol, symbol_at}
 
 -- how many bytes a character takes that begins with this one
 abbrev pub char_size : ℕ → ℕ

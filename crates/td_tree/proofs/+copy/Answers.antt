@@ -1,7 +1,7 @@
 use Rattle.std.proofs.Common.{ap, ◌∙◌}
 use Rattle.td_tree.proofs.code_lemmas.Pushes.{one_more, one_tree, then_trees, trees_push, one_named, then_named, named_push, one_summary, then_summaries, summaries_push}
 use Rattle.td_tree.proofs.code_lemmas.Rows.{binding_is, copied_as, extend_is, extend_setting_is, headed_relation_is, relation_is, select_is, summarize_by_is, summarize_per_is, tuple_is}
-use Rattle.td_tree.specs.Trees as trees
+use Rattle.td_tree.specs.model.Trees as trees
 use Rattle.td_tree.specs.code.TreeViews.{named_view, summaries_view, tree_view, trees_view}
 use Rattle.td_tree.proofs.+copy.Goals as goal
 

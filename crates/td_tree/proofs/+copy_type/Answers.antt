@@ -1,7 +1,7 @@
 use Rattle.std.proofs.Common.{sym, ap, ◌∙◌}
 use Rattle.td_tree.proofs.code_lemmas.Pushes.{one_more, one_attribute, then_attributes, heading_push}
 use Rattle.td_tree.proofs.code_lemmas.Rows.{relation_type_is, tuple_type_is}
-use Rattle.td_tree.specs.Trees as trees
+use Rattle.td_tree.specs.model.Trees as trees
 use Rattle.td_tree.specs.code.TreeViews.{heading_tree_view, type_tree_view}
 use Rattle.td_tree.proofs.+copy_type.Goals as goal
 

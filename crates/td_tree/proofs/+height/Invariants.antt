@@ -1,5 +1,5 @@
 use Rattle.std.proofs.Common.{◌≡◌, max, min, drop}
-use Rattle.td_tree.specs.Heights.{highest, highest_named, highest_summary}
+use Rattle.td_tree.specs.model.Heights.{highest, highest_named, highest_summary}
 use Rattle.td_tree.specs.code.TreeViews.{trees_view, named_view, summaries_view}
 use Rattle.td_tree.proofs.+height.Given as goal
 

@@ -4,7 +4,7 @@ use Rattle.td_tree.proofs.code_lemmas.Rows.{relation_type_is, tuple_type_is}
 use Rattle.td_tree.specs.declared.type_tree.AttributeTree.{AttributeTree}
 use Rattle.td_tree.specs.declared.type_tree.TypeTree.{TypeTree}
 use Rattle.td_tree.specs.declared.type_tree.TypeTree.TheVariants as t
-use Rattle.td_tree.specs.Heights.{attributes_height, type_height}
+use Rattle.td_tree.specs.model.Heights.{attributes_height, type_height}
 use Rattle.td_tree.specs.code.TreeViews.{heading_tree_view, type_tree_view}
 use Rattle.td_tree.proofs.+type_height.Goals as goal
 

@@ -1,5 +1,5 @@
 use Rattle.std.proofs.Common.{◌≡◌, max, min, drop}
-use Rattle.td_tree.specs.Heights.{attributes_height}
+use Rattle.td_tree.specs.model.Heights.{attributes_height}
 use Rattle.td_tree.specs.code.TreeViews.{heading_tree_view}
 use Rattle.td_tree.proofs.+type_height.Given as goal
 

@@ -4,8 +4,8 @@ use Rattle.td_tree.proofs.code_lemmas.Rows.{binding_is, extend_is, extend_settin
 use Rattle.td_tree.specs.declared.expression.Expr.{Expr}
 use Rattle.td_tree.specs.declared.expression.Expr.TheVariants as e
 use Rattle.td_tree.specs.declared.expression.NamedExpr.{NamedExpr}
-use Rattle.td_tree.specs.Trees.{Text, Tree}
-use Rattle.td_tree.specs.WrittenTrees.{GiveNames, HaveNames, HaveTexts, IsWritten, ItemsGiveNames, ItemsHaveTexts, PartsGiveNames, PartsHaveTexts}
+use Rattle.td_tree.specs.model.Trees.{Text, Tree}
+use Rattle.td_tree.specs.model.WrittenTrees.{GiveNames, HaveNames, HaveTexts, IsWritten, ItemsGiveNames, ItemsHaveTexts, PartsGiveNames, PartsHaveTexts}
 use Rattle.td_tree.specs.code.TreeViews.{heading_tree_view, named_view, summaries_view, tree_view, trees_view}
 use Rattle.td_tree.proofs.+written.Goals as goal
 

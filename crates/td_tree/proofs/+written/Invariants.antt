@@ -1,5 +1,5 @@
 use Rattle.std.proofs.Common.{drop}
-use Rattle.td_tree.specs.WrittenTrees.{GiveNames, HaveTexts, ItemsGiveNames, ItemsHaveTexts, PartsGiveNames, PartsHaveTexts}
+use Rattle.td_tree.specs.model.WrittenTrees.{GiveNames, HaveTexts, ItemsGiveNames, ItemsHaveTexts, PartsGiveNames, PartsHaveTexts}
 use Rattle.td_tree.specs.code.TreeViews.{named_view, summaries_view, trees_view}
 use Rattle.td_tree.proofs.+written.Given as goal
 

@@ -1,5 +1,5 @@
 use Rattle.std.proofs.Common.{drop}
-use Rattle.td_tree.specs.WrittenTrees.{HaveNames}
+use Rattle.td_tree.specs.model.WrittenTrees.{HaveNames}
 use Rattle.td_tree.specs.code.TreeViews.{heading_tree_view}
 use Rattle.td_tree.proofs.+written_type.Given as goal
 

@@ -2,7 +2,7 @@
 use Rattle.std.proofs.Common.{◌≡◌, ℕ, ◌<◌, ◌+◌, Bool, true, false, cond, eqb, List, [], ◌∷◌, ◌++◌, length, get_or, drop, refl, sym, ap, ◌∙◌}
 use Rattle.std.specs.List.{slice_split, onto_first}
 use Rattle.std.proofs.lemmas.List.{at_drop_more}
-use Rattle.td_tree.specs.TextTokens.{with_quotes_doubled}
+use Rattle.td_tree.specs.model.TextTokens.{with_quotes_doubled}
 use Rattle.td_tree.specs.code.Written.{quotes_if}
 
 -- the pieces with two quotes between

@@ -5,9 +5,9 @@ use Rattle.std.proofs.lemmas.List.Elements.{All-push}
 use Rattle.std.specs.List.{All}
 use Rattle.std.specs.Prelude.{nat_le}
 use Rattle.std.proofs.lemmas.Bool.Decides.{leb_tells}
-use Rattle.td_tree.specs.Causes.{number_of}
-use Rattle.td_tree.specs.Gatherings.{HasValue, IsCollected, IsGathered, IsRest, answer_of, cause_of, lesser_cause}
-use Rattle.td_tree.specs.Outcomes.{Answers, Outcome, Valued, Refused, gathered, lesser, named_cause, with_both}
+use Rattle.td_tree.specs.model.Causes.{number_of}
+use Rattle.td_tree.specs.code.Gatherings.{HasValue, IsCollected, IsGathered, IsRest, answer_of, cause_of, lesser_cause}
+use Rattle.td_tree.specs.model.Outcomes.{Answers, Outcome, Valued, Refused, gathered, lesser, named_cause, with_both}
 use Rattle.td_tree.specs.declared.cause.Cause.{Cause}
 use Rattle.td_tree.specs.declared.fault.Fault.{Fault}
 use Rattle.td_tree.specs.declared.fault.Fault.TheVariants as faults

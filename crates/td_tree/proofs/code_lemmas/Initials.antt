@@ -8,7 +8,7 @@ use Rattle.std.specs.Str.{str_eq_ignore_ascii_case}
 use Rattle.std.proofs.lemmas.List.Folds.{find-append}
 use Rattle.td_tree.specs.declared.keyword.Keyword.{Keyword}
 use Rattle.td_tree.specs.code.Initials.{are_apart, are_grouped, begins}
-use Rattle.td_tree.specs.Keywords.{keyword_of, keywords, word_of}
+use Rattle.td_tree.specs.model.Keywords.{keyword_of, keywords, word_of}
 use Rattle.td_tree.proofs.law_lemmas.CharacterLaws.{both}
 use Rattle.td_tree.proofs.law_lemmas.RunLaws.{same_number}
 

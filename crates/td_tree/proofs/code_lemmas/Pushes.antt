@@ -7,7 +7,7 @@ use Rattle.td_tree.specs.declared.expression.Summary.{Summary}
 use Rattle.td_tree.specs.declared.expression.Summary.TheVariants as s
 use Rattle.td_tree.specs.declared.type_tree.AttributeTree.{AttributeTree}
 use Rattle.td_tree.specs.code.TreeViews.{heading_tree_view, named_view, summaries_view, tree_view, trees_view, type_tree_view, with_summary}
-use Rattle.td_tree.specs.Trees.{AttributeTrees, no_attributes, attribute, Trees, none, more, NamedTrees, none_named, more_named, Summaries, no_summaries, counted, summed}
+use Rattle.td_tree.specs.model.Trees.{AttributeTrees, no_attributes, attribute, Trees, none, more, NamedTrees, none_named, more_named, Summaries, no_summaries, counted, summed}
 
 -- a copy of the items so far, and then of one more
 pub one_more : {X Y : Type 0} (f : List X → Y) (part : X → Y) (push : Y → Y → Y) → ((v : List X) (x : X) → f (v ++ (x ∷ [])) ≡ push (f v) (part x))

@@ -11,8 +11,8 @@ use Rattle.td_tree.specs.declared.type_tree.AttributeTree.{AttributeTree}
 use Rattle.td_tree.specs.declared.type_tree.TypeTree.{TypeTree, Row_of-AttributeTree, end_of-AttributeTree, more_of-AttributeTree, items-the_row-AttributeTree, items_hidden-the_row-AttributeTree-0}
 use Rattle.td_tree.specs.declared.type_tree.TypeTree.TheVariants as t
 use Rattle.td_tree.specs.code.TreeViews.{type_tree_view, heading_row, heading_tree_view, tree_view, trees_row, trees_view, named_row, named_view, summaries_row, summaries_view, with_summary, attributes_view}
-use Rattle.td_tree.specs.Trees as trees
-use Rattle.td_tree.specs.Trees.{Text}
+use Rattle.td_tree.specs.model.Trees as trees
+use Rattle.td_tree.specs.model.Trees.{Text}
 
 heading_rows : (n : _) (row : Row_of-AttributeTree n) → heading_row row ≡ heading_tree_view (items-the_row-AttributeTree n row)
 heading_rows n end_of-AttributeTree = refl

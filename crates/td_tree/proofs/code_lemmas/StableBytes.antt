@@ -4,10 +4,10 @@ use Rattle.std.specs.List.{flat_map}
 use Rattle.std.specs.Str.{is_utf8, chars, continuation_len}
 use Rattle.std.proofs.lemmas.List.{append_cancel_left}
 use Rattle.std.proofs.lemmas.Grind.{flat_map-append}
-use Rattle.td_tree.specs.Division.{divide, up_to, state}
+use Rattle.td_tree.specs.model.Division.{divide, up_to, state}
 use Rattle.td_tree.proofs.law_lemmas.DivisionLaws.{stable}
 use Rattle.td_tree.proofs.law_lemmas.EndLaws.{found_in, up_to_cases}
-use Rattle.td_tree.specs.Symbols.{front_char, front_bytes, spell, Symbol, symbol_of, symbol_at, symbols_from, symbols}
+use Rattle.td_tree.specs.model.Symbols.{front_char, front_bytes, spell, Symbol, symbol_of, symbol_at, symbols_from, symbols}
 use Rattle.td_tree.proofs.law_lemmas.FrontLaws.{ascii_byte}
 use Rattle.td_tree.proofs.law_lemmas.SymbolLaws.{symbols-append_ascii}
 

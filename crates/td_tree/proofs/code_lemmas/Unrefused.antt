@@ -3,7 +3,7 @@ use Rattle.std.proofs.Common.{◌≡◌, ◌∙◌, Bool, true, Result, Ok, Err,
 use Rattle.td_tree.specs.declared.cause.Cause.{Cause}
 use Rattle.td_tree.specs.declared.fault.Fault.{Fault}
 use Rattle.td_tree.specs.declared.fault.Fault.TheVariants as faults
-use Rattle.td_tree.specs.Outcomes.{Answers, IsUnrefused, Outcome, Valued, named_cause, value_if}
+use Rattle.td_tree.specs.model.Outcomes.{Answers, IsUnrefused, Outcome, Valued, named_cause, value_if}
 
 module _ {X A : Type 0} (view : X → A) where
   pub unrefused_valued : (r : Result X Fault) (o : Outcome A) (a : A) → o ≡ Valued a → Answers view r o → IsUnrefused r

@@ -3,8 +3,8 @@ use Rattle.std.proofs.Common.{◌≡◌, ℕ, ◌+◌, ◌-◌, ◌<◌, ◌≤�
 use Rattle.std.proofs.Math.Seq.{get_or-append_seam, take-append_seam}
 use Rattle.std.proofs.lemmas.Grind.{flat_map-append}
 use Rattle.std.proofs.lemmas.List.{at_drop_more}
-use Rattle.td_tree.specs.Lexemes.{Lexeme, printed_text, spaced_text}
-use Rattle.td_tree.specs.Prints.{commas, following}
+use Rattle.td_tree.specs.model.Lexemes.{Lexeme, printed_text, spaced_text}
+use Rattle.td_tree.specs.model.Prints.{commas, following}
 use Rattle.td_tree.specs.code.Written.{comma_lexeme_if, written_text}
 
 -- items that come first, or after others

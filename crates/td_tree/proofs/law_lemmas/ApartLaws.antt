@@ -1,10 +1,10 @@
 -- Bytes that are a piece by themselves, and end before what follows them: the first piece, and the first token.
 use Rattle.std.proofs.Common.{true, ◌≡◌, ℕ, ◌+◌, ◌<◌, List, [], ◌∷◌, ◌++◌, length, refl, sym, ap, ◌∙◌, arith, Option, Some, None, append-nil, length-append}
 use Rattle.std.specs.Prelude.{option_and_then}
-use Rattle.td_tree.specs.Division.{IsDivision, IsNext, divide}
-use Rattle.td_tree.specs.Pieces.{begins, continues, goes_on, kind_after, kind_of, opens, pieces, state}
-use Rattle.td_tree.specs.Statements.{token_of, tokens, tokens_from}
-use Rattle.td_tree.specs.Symbols.{Symbol, spell, symbols}
+use Rattle.td_tree.specs.model.Division.{IsDivision, IsNext, divide}
+use Rattle.td_tree.specs.model.Pieces.{begins, continues, goes_on, kind_after, kind_of, opens, pieces, state}
+use Rattle.td_tree.specs.model.Statements.{token_of, tokens, tokens_from}
+use Rattle.td_tree.specs.model.Symbols.{Symbol, spell, symbols}
 use Rattle.td_tree.specs.declared.piece.Piece.{Piece}
 use Rattle.td_tree.proofs.law_lemmas.Boundaries.{IsBounded, boundary_ascii, is_boundary}
 use Rattle.td_tree.proofs.law_lemmas.DivisionLaws.{divides, one_division, stops}

@@ -2,11 +2,11 @@
 use Rattle.std.proofs.Common.{◌≡◌, ℕ, ◌+◌, List, [], ◌∷◌, ◌++◌, length, refl, sym, ap, ◌∙◌, Option, Some, None, append-nil}
 use Rattle.std.proofs.lemmas.List.{map-append}
 use Rattle.td_tree.specs.declared.token.Kind.{Kind}
-use Rattle.td_tree.specs.Apart.{IsApart, TextsApartAreSeenEach, TextsApartAreThePieces, joined_texts}
-use Rattle.td_tree.specs.Pieces.{kind_after}
-use Rattle.td_tree.specs.Statements.{PlacedToken, token_of, tokens}
-use Rattle.td_tree.specs.Symbols.{symbols}
-use Rattle.td_tree.specs.TokenLexemes.{lexeme_of, lexemes}
+use Rattle.td_tree.specs.laws.Apart.{IsApart, TextsApartAreSeenEach, TextsApartAreThePieces, joined_texts}
+use Rattle.td_tree.specs.model.Pieces.{kind_after}
+use Rattle.td_tree.specs.model.Statements.{PlacedToken, token_of, tokens}
+use Rattle.td_tree.specs.model.Symbols.{symbols}
+use Rattle.td_tree.specs.model.TokenLexemes.{lexeme_of, lexemes}
 use Rattle.td_tree.proofs.law_lemmas.ApartLaws.{EndsBefore, ends_at_end, next_piece, next_token}
 use Rattle.td_tree.proofs.law_lemmas.CharacterLaws.{symbols-append_utf8}
 

@@ -13,17 +13,18 @@ use Rattle.td_tree.specs.declared.piece.Piece.{Piece}
 use Rattle.td_tree.specs.declared.piece.Piece.TheVariants as pieces_are
 use Rattle.td_tree.specs.declared.token.Kind.{Kind}
 use Rattle.td_tree.specs.declared.token.Kind.TheVariants as kinds
-use Rattle.td_tree.specs.Keywords.{keyword_of}
-use Rattle.td_tree.specs.Lexemes as lexeme
-use Rattle.td_tree.specs.Names.{is_name, is_word, is_word_start, is_word_more, begins_the}
-use Rattle.td_tree.specs.Numbers.{decimal_value}
-use Rattle.td_tree.specs.Pieces.{kind_after, kind_of, state, passes, text_kind, word_kind, word_kind_of}
-use Rattle.td_tree.specs.Spellings.{characters}
-use Rattle.td_tree.specs.Symbols.{Symbol, symbols, spell, AreSymbols, IsFront}
-use Rattle.td_tree.specs.TextTokens.{content, text_in_quotes}
-use Rattle.td_tree.specs.Spans.{AreOfTheirKind}
-use Rattle.td_tree.specs.Statements.{PlacedToken, tokens}
-use Rattle.td_tree.specs.TokenLexemes.{is_the_word, is_quoted_text, lexeme_of, AreBadWhereSeen}
+use Rattle.td_tree.specs.model.Keywords.{keyword_of}
+use Rattle.td_tree.specs.model.Lexemes as lexeme
+use Rattle.td_tree.specs.model.Names.{is_name, is_word, is_word_start, is_word_more, begins_the}
+use Rattle.td_tree.specs.model.Numbers.{decimal_value}
+use Rattle.td_tree.specs.model.Pieces.{kind_after, kind_of, state, passes, text_kind, word_kind, word_kind_of}
+use Rattle.td_tree.specs.laws.Spellings.{characters}
+use Rattle.td_tree.specs.model.Symbols.{Symbol, symbols, spell}
+use Rattle.td_tree.specs.model.TextTokens.{content, text_in_quotes}
+use Rattle.td_tree.specs.laws.Spans.{AreOfTheirKind}
+use Rattle.td_tree.specs.model.Statements.{PlacedToken, tokens}
+use Rattle.td_tree.specs.model.TokenLexemes.{is_the_word, is_quoted_text, lexeme_of}
+use Rattle.td_tree.specs.laws.TokenLaws.{AreBadWhereSeen, AreSymbols, IsFront}
 use Rattle.td_tree.proofs.law_lemmas.CharacterLaws.{both}
 use Rattle.td_tree.proofs.law_lemmas.DecodeLaws.{are_symbols}
 use Rattle.td_tree.proofs.law_lemmas.KindLaws.{as_spelled}
@@ -75,7 +76,7 @@ text_of t cs e =
 word_text : (t : List ℕ) → state (symbols t) ≡ Some pieces_are.Word → (is_utf8 t ≡ true) × (is_word (chars t) ≡ true)
 word_text t is = from (characters (symbols t)) refl ((as_spelled (symbols t) pieces_are.Word).0 is)
   where
-    from : (os : List (Option ℕ)) → characters (symbols t) ≡ os → Rattle.td_tree.specs.Spellings.is_word_spelled os ≡ true → (is_utf8 t ≡ true) × (is_word (chars t) ≡ true)
+    from : (os : List (Option ℕ)) → characters (symbols t) ≡ os → Rattle.td_tree.specs.laws.Spellings.is_word_spelled os ≡ true → (is_utf8 t ≡ true) × (is_word (chars t) ≡ true)
     from [] same e = absurd cc
     from (None ∷ os) same e = absurd cc
     from (Some c ∷ os) same e =
@@ -96,7 +97,7 @@ digits_themselves (c ∷ cs) e =
 number_text : (t : List ℕ) → state (symbols t) ≡ Some pieces_are.Number → list_all is_ascii_digit t ≡ true
 number_text t is = from (characters (symbols t)) refl ((as_spelled (symbols t) pieces_are.Number).0 is)
   where
-    from : (os : List (Option ℕ)) → characters (symbols t) ≡ os → Rattle.td_tree.specs.Spellings.is_number_spelled os ≡ true → list_all is_ascii_digit t ≡ true
+    from : (os : List (Option ℕ)) → characters (symbols t) ≡ os → Rattle.td_tree.specs.laws.Spellings.is_number_spelled os ≡ true → list_all is_ascii_digit t ≡ true
     from [] same e = absurd cc
     from (o ∷ os) same e =
         let r = all_characters is_ascii_digit (o ∷ os) e in

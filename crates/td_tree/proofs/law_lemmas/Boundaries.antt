@@ -6,7 +6,7 @@ use Rattle.std.proofs.lemmas.Bool.Decides.{nat_tests}
 use Rattle.td_tree.specs.declared.piece.Piece.TheVariants as pieces_are
 use Rattle.td_tree.specs.declared.token.Sign.{Sign}
 use Rattle.td_tree.specs.declared.token.Sign.TheVariants as signs
-use Rattle.td_tree.specs.Pieces.{goes_on, sign_goes_on}
+use Rattle.td_tree.specs.model.Pieces.{goes_on, sign_goes_on}
 use Rattle.td_tree.proofs.law_lemmas.WordStarts.{ascii_more}
 
 -- a line feed, a space, a parenthesis, a comma, a semicolon or a brace

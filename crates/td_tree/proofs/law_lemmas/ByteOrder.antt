@@ -11,7 +11,7 @@ use Rattle.std.proofs.Math.Nat.{div-add-mod, div-div-eq-div-mul, mod-lt}
 use Rattle.std.proofs.Math.Utf8.{encode, encodes}
 use Rattle.std.proofs.lemmas.Bool.{cases_order}
 use Rattle.std.proofs.lemmas.Str.{encodes-chars}
-use Rattle.td_tree.specs.Names.{BytesCompareAsCodePoints}
+use Rattle.td_tree.specs.laws.NameLaws.{BytesCompareAsCodePoints}
 
 -- ---- numbers
 

@@ -5,8 +5,8 @@ use Rattle.std.proofs.Math.Utf8.{encode, encodes, scalars}
 use lib.Utf8.{scalar as is_scalar}
 use Rattle.std.proofs.lemmas.List.{drop_at, take_at}
 use Rattle.std.proofs.lemmas.Str.{encodes-chars, scalars-chars, length-encode, len_utf8_bounds}
-use Rattle.td_tree.specs.Spellings.{characters}
-use Rattle.td_tree.specs.Symbols.{Symbol, symbols}
+use Rattle.td_tree.specs.laws.Spellings.{characters}
+use Rattle.td_tree.specs.model.Symbols.{Symbol, symbols}
 use Rattle.td_tree.proofs.law_lemmas.DecodeLaws.{front_of_character, character_found}
 use Rattle.td_tree.proofs.law_lemmas.SymbolLaws.{front_some}
 

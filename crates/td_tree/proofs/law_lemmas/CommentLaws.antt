@@ -3,8 +3,8 @@ use Rattle.std.proofs.Common.{◌≡◌, ℕ, List, [], ◌∷◌, ◌++◌, len
 use Rattle.std.specs.Prelude.{not}
 use Rattle.td_tree.specs.declared.piece.Piece.{Piece}
 use Rattle.td_tree.specs.declared.piece.Piece.TheVariants.{LineComment, OpenComment, StarredComment, Comment}
-use Rattle.td_tree.specs.Pieces.{opens, goes_on, is_character, sign_at, sign_goes_on}
-use Rattle.td_tree.specs.Spellings.{comment_start, comment_end, EndsInStar, HasNoEnd, IsOpenComment, IsStarredComment, IsComment, IsLineComment, IsSpelled}
+use Rattle.td_tree.specs.model.Pieces.{opens, goes_on, is_character, sign_at, sign_goes_on}
+use Rattle.td_tree.specs.laws.Spellings.{comment_start, comment_end, EndsInStar, HasNoEnd, IsOpenComment, IsStarredComment, IsComment, IsLineComment, IsSpelled}
 use Rattle.td_tree.proofs.law_lemmas.DivisionLaws.{run-append}
 use Rattle.td_tree.proofs.law_lemmas.RunLaws.{run, spelled_state, same_character, stays, goes_through}
 

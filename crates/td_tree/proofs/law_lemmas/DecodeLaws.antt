@@ -8,7 +8,8 @@ use Rattle.std.specs.Char.{IsScalar}
 use Rattle.std.proofs.lemmas.Str.{is_utf8-from_IsUtf8, IsUtf8-from_is_utf8, IsUtf8-encode, chars-encodes, encodes-chars, scalars-chars}
 use Rattle.std.proofs.lemmas.List.{take_at}
 use Rattle.td_tree.proofs.code_lemmas.StableBytes.{cuts}
-use Rattle.td_tree.specs.Symbols.{IsFront, AreSymbols, front_bytes, front_char, symbol_of, symbol_at, symbols_from, symbols}
+use Rattle.td_tree.specs.laws.TokenLaws.{IsFront, AreSymbols}
+use Rattle.td_tree.specs.model.Symbols.{front_bytes, front_char, symbol_of, symbol_at, symbols_from, symbols}
 
 both : (a b : Bool) → (a && b) ≡ true → (a ≡ true) × (b ≡ true)
 both true b e = (refl, e)

@@ -3,7 +3,7 @@ use Rattle.std.proofs.Common.{◌≡◌, ◌+◌, ◌<◌, ◌≤◌, List, [], 
 use Rattle.std.proofs.lemmas.List.{length-append, take_at, drop_at}
 use Rattle.std.specs.Prelude.{option_map}
 use Rattle.std.specs.List.{flat_map}
-use Rattle.td_tree.specs.Division.{run, state, IsPiece, IsNext, IsDivision, divide_from, divide, up_to}
+use Rattle.td_tree.specs.model.Division.{run, state, IsPiece, IsNext, IsDivision, divide_from, divide, up_to}
 
 -- two divisions of one list at the same place
 abbrev pub Splits : {X : Type 0} → List X → List X → List X → List X → Type 0

@@ -2,7 +2,7 @@
 use Rattle.std.proofs.Common.{◌≡◌, List, [], ◌∷◌, ◌++◌, refl, sym, ap, ◌∙◌, append_assoc, Option, Some, None, Bool, true, false, if◌then◌else◌, ◌⊎◌, inl, inr, ⊎_elim}
 use Rattle.std.specs.Prelude.{option_map}
 use Rattle.std.specs.List.{flat_map}
-use Rattle.td_tree.specs.Division.{divide_from, divide, up_to}
+use Rattle.td_tree.specs.model.Division.{divide_from, divide, up_to}
 use Rattle.td_tree.proofs.law_lemmas.DivisionLaws.{up_to-ends}
 
 -- what is found up to an end is found in its own pieces alone

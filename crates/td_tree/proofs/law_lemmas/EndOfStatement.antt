@@ -7,13 +7,13 @@ use Rattle.td_tree.specs.declared.piece.Piece.TheVariants as pieces_are
 use Rattle.td_tree.specs.declared.token.Kind.TheVariants as kinds
 use Rattle.td_tree.specs.declared.token.Sign.{Sign}
 use Rattle.td_tree.specs.declared.token.Sign.TheVariants as signs
-use Rattle.td_tree.specs.Division.{up_to, IsDivision}
-use Rattle.td_tree.specs.Keywords.{keyword_of}
-use Rattle.td_tree.specs.Names.{begins_the}
-use Rattle.td_tree.specs.Pieces.{begins, continues, goes_on, sign_goes_on, pieces, kind_after, state, text_kind, word_kind, word_kind_of}
-use Rattle.td_tree.specs.Spellings.{characters}
-use Rattle.td_tree.specs.Statements.{is_end}
-use Rattle.td_tree.specs.Symbols.{Symbol, symbols, spell}
+use Rattle.td_tree.specs.model.Division.{up_to, IsDivision}
+use Rattle.td_tree.specs.model.Keywords.{keyword_of}
+use Rattle.td_tree.specs.model.Names.{begins_the}
+use Rattle.td_tree.specs.model.Pieces.{begins, continues, goes_on, sign_goes_on, pieces, kind_after, state, text_kind, word_kind, word_kind_of}
+use Rattle.td_tree.specs.laws.Spellings.{characters}
+use Rattle.td_tree.specs.model.Statements.{is_end}
+use Rattle.td_tree.specs.model.Symbols.{Symbol, symbols, spell}
 use Rattle.td_tree.proofs.law_lemmas.DivisionLaws as division
 use Rattle.td_tree.proofs.law_lemmas.KindLaws.{as_spelled}
 use Rattle.td_tree.proofs.code_lemmas.StableBytes.{IsOneEnd, stable_bytes}

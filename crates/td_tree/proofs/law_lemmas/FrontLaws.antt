@@ -6,7 +6,7 @@ use Rattle.std.specs.Str.{IsAscii}
 use Rattle.std.proofs.lemmas.List.{take_all, take_at, get_or_at, length-append}
 use Rattle.std.specs.Str.{is_utf8, chars, chars_after, continuation_len, lead_bits}
 use Rattle.std.specs.Prelude.{if◌then◌else◌, slice_get}
-use Rattle.td_tree.specs.Symbols.{front_char, front_bytes}
+use Rattle.td_tree.specs.model.Symbols.{front_char, front_bytes}
 
 pub all_taken : (n : ℕ) (bs : List ℕ) → length bs < n → bs ≡ take n bs
 all_taken n bs short = sym (take_all n bs (omega arith))

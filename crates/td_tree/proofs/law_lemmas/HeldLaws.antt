@@ -3,10 +3,10 @@ use Rattle.std.proofs.Common.{◌≡◌, ℕ, ◌+◌, ◌-◌, ◌≤◌, List,
 use Rattle.std.specs.Prelude.{option_map}
 use Rattle.std.proofs.lemmas.List.{drop-append-le}
 use Rattle.td_tree.specs.declared.token.Kind.{Kind}
-use Rattle.td_tree.specs.Division.{up_to}
-use Rattle.td_tree.specs.Pieces.{pieces, kind_of}
-use Rattle.td_tree.specs.Statements.{PlacedToken, token_of, tokens_from, tokens, ends, split, statements, end_of}
-use Rattle.td_tree.specs.Symbols.{Symbol, spell}
+use Rattle.td_tree.specs.model.Division.{up_to}
+use Rattle.td_tree.specs.model.Pieces.{pieces, kind_of}
+use Rattle.td_tree.specs.model.Statements.{PlacedToken, token_of, tokens_from, tokens, ends, split, statements, end_of}
+use Rattle.td_tree.specs.model.Symbols.{Symbol, spell}
 use Rattle.td_tree.proofs.law_lemmas.EndLaws.{up_to_cases}
 use Rattle.td_tree.proofs.law_lemmas.EndOfStatement.{continuation}
 use Rattle.td_tree.proofs.law_lemmas.PieceLaws.{size, size-cons, taken_off}

@@ -9,10 +9,10 @@ use Rattle.td_tree.specs.declared.piece.Piece.TheVariants.{Blank, Word, Number, 
 use Rattle.td_tree.specs.declared.piece.Piece.TheVariants as pieces_are
 use Rattle.td_tree.specs.declared.token.Sign.{Sign}
 use Rattle.td_tree.specs.declared.token.Sign.TheVariants as signs
-use Rattle.td_tree.specs.Names.{is_word_start, is_word_more}
-use Rattle.td_tree.specs.Pieces.{opens, goes_on, sign_at, sign_goes_on, sign_or_word, is_blank, is_character, passes, state}
-use Rattle.td_tree.specs.Spellings.{characters, is_word_spelled, is_number_spelled, is_blank_spelled, spelling, bar, quote, IsBadSpelled, IsSpelled}
-use Rattle.td_tree.specs.Symbols.{Symbol}
+use Rattle.td_tree.specs.model.Names.{is_word_start, is_word_more}
+use Rattle.td_tree.specs.model.Pieces.{opens, goes_on, sign_at, sign_goes_on, sign_or_word, is_blank, is_character, passes, state}
+use Rattle.td_tree.specs.laws.Spellings.{characters, is_word_spelled, is_number_spelled, is_blank_spelled, spelling, bar, quote, IsBadSpelled, IsSpelled}
+use Rattle.td_tree.specs.model.Symbols.{Symbol}
 use Rattle.td_tree.proofs.law_lemmas.CommentLaws.{comment_is, comment_state, line_comment_is, line_comment_state, open_comment_state, starred_comment_state}
 use Rattle.td_tree.proofs.law_lemmas.RunLaws.{run, spelled_state, state_characters, same_number, same_character, both, stays, goes_through, ends_here}
 use Rattle.td_tree.proofs.law_lemmas.TextLaws.{text_is, text_state, open_text_state}

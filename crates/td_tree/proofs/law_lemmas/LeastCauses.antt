@@ -2,9 +2,10 @@
 use Rattle.std.proofs.Common.{◌≡◌, ◌≤◌, ◌<◌, ◌⊎◌, inl, inr, refl, sym, subst, ap, true, false, if◌then◌else◌, arith}
 use Rattle.std.specs.Prelude.{nat_le}
 use Rattle.std.proofs.lemmas.Bool.Decides.{leb_tells}
-use Rattle.td_tree.specs.Causes.{number_of}
+use Rattle.td_tree.specs.model.Causes.{number_of}
 use Rattle.td_tree.specs.declared.cause.Cause.{Cause}
-use Rattle.td_tree.specs.Outcomes.{Causes, Only, Union, Has, least, lesser, LeastIsNamed}
+use Rattle.td_tree.specs.model.Outcomes.{Causes, Only, Union, Has, least, lesser}
+use Rattle.td_tree.specs.laws.CauseLaws.{LeastIsNamed}
 
 -- it is the one of two causes, with a number that is not above the other's
 abbrev IsLesser : Cause → Cause → Cause → Type 0

@@ -3,8 +3,8 @@ use Rattle.std.proofs.Common.{◌≡◌, true, codes, refl, arith}
 use Rattle.std.specs.Str.{chars}
 use Rattle.unicode_ident.proofs.Computing.{unicode_ident}
 use Rattle.unicode_ident.proofs.IdentLemmas.{is_xid_start-ascii}
-use Rattle.td_tree.specs.Keywords.{keyword_of}
-use Rattle.td_tree.specs.Names.{is_name}
+use Rattle.td_tree.specs.model.Keywords.{keyword_of}
+use Rattle.td_tree.specs.model.Names.{is_name}
 
 -- `unfolding letters` lets `refl` compute what begins a word and what goes on with one
 unfoldable pub letters : Unit {0}

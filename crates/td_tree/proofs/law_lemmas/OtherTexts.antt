@@ -16,12 +16,12 @@ use Rattle.td_tree.specs.declared.piece.Piece.TheVariants as pieces_are
 use Rattle.td_tree.specs.declared.token.Kind.TheVariants as kinds
 use Rattle.td_tree.specs.declared.token.Sign.{Sign}
 use Rattle.td_tree.specs.declared.token.Sign.TheVariants as signs
-use Rattle.td_tree.specs.Numbers.{decimal_value}
-use Rattle.td_tree.specs.Pieces.{passes}
-use Rattle.td_tree.specs.Signs.{sign_text}
-use Rattle.td_tree.specs.Spellings.{is_number_spelled, spelling, characters}
-use Rattle.td_tree.specs.Symbols.{symbols}
-use Rattle.td_tree.specs.TextTokens.{text_in_quotes}
+use Rattle.td_tree.specs.model.Numbers.{decimal_value}
+use Rattle.td_tree.specs.model.Pieces.{passes}
+use Rattle.td_tree.specs.model.Signs.{sign_text}
+use Rattle.td_tree.specs.laws.Spellings.{is_number_spelled, spelling, characters}
+use Rattle.td_tree.specs.model.Symbols.{symbols}
+use Rattle.td_tree.specs.model.TextTokens.{text_in_quotes}
 use Rattle.td_tree.proofs.law_lemmas.Boundaries.{number_ends, sign_ends, text_ends}
 use Rattle.td_tree.proofs.law_lemmas.CharacterLaws.{characters_are}
 use Rattle.td_tree.proofs.law_lemmas.KindLaws.{as_spelled}

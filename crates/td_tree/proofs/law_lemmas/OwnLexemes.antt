@@ -4,13 +4,13 @@ use Rattle.std.specs.Prelude.{map}
 use Rattle.td_tree.specs.declared.keyword.Keyword.TheVariants as k
 use Rattle.td_tree.specs.declared.operator.Level.{Level}
 use Rattle.td_tree.specs.declared.token.Sign.TheVariants as signs
-use Rattle.td_tree.specs.Grammar as g
-use Rattle.td_tree.specs.Grammar.{TypeSpelling, HeadingSpelling, AttributesSpelling, NameSpelling, name_item, NamesSpelling, AttributeListSpelling, RenamingSpelling, PostfixSpelling, LiteralSpelling, Spelling, ListSpelling, ExpressionsSpelling, PartsSpelling, AdditionsSpelling, SettingsSpelling, SummariesSpelling}
-use Rattle.td_tree.specs.Lexemes.{Lexeme, keyword, sign}
-use Rattle.td_tree.specs.Lexemes as lexeme
-use Rattle.td_tree.specs.Lists.{Listed, no_items, some_items, Separated, one_item, next_item}
-use Rattle.td_tree.specs.Prints.{following, commas, type_lexemes, attribute_lexemes, heading_lexemes, literal_lexemes, name_lexemes, attributes_lexemes, renaming_lexemes, postfix_lexemes, lexemes_of, all_lexemes, part_lexemes, addition_lexemes, setting_lexemes, summary_lexemes}
-use Rattle.td_tree.specs.Trees.{Text, TypeTree, AttributeTrees, Attributes, Renaming, Postfix, Literal, Tree, Trees, NamedTrees, Summaries}
+use Rattle.td_tree.specs.model.Grammar as g
+use Rattle.td_tree.specs.model.Grammar.{TypeSpelling, HeadingSpelling, AttributesSpelling, NameSpelling, name_item, NamesSpelling, AttributeListSpelling, RenamingSpelling, PostfixSpelling, LiteralSpelling, Spelling, ListSpelling, ExpressionsSpelling, PartsSpelling, AdditionsSpelling, SettingsSpelling, SummariesSpelling}
+use Rattle.td_tree.specs.model.Lexemes.{Lexeme, keyword, sign}
+use Rattle.td_tree.specs.model.Lexemes as lexeme
+use Rattle.td_tree.specs.model.Lists.{Listed, no_items, some_items, Separated, one_item, next_item}
+use Rattle.td_tree.specs.model.Prints.{following, commas, type_lexemes, attribute_lexemes, heading_lexemes, literal_lexemes, name_lexemes, attributes_lexemes, renaming_lexemes, postfix_lexemes, lexemes_of, all_lexemes, part_lexemes, addition_lexemes, setting_lexemes, summary_lexemes}
+use Rattle.td_tree.specs.model.Trees.{Text, TypeTree, AttributeTrees, Attributes, Renaming, Postfix, Literal, Tree, Trees, NamedTrees, Summaries}
 
 abbrev comma : Lexeme
 comma = sign signs.Comma
@@ -61,7 +61,7 @@ name_is _ _ name_item = refl
 names_are : {xs : List Lexeme} {ns : List Text} → Listed NameSpelling xs ns → xs ≡ name_lexemes ns
 names_are p = listed_are NameSpelling (λ n. lexeme.name n ∷ []) name_is p
 
-braced_names_are : {xs : List Lexeme} {ns : List Text} → NamesSpelling xs ns → xs ≡ attributes_lexemes (Rattle.td_tree.specs.Trees.only ns)
+braced_names_are : {xs : List Lexeme} {ns : List Text} → NamesSpelling xs ns → xs ≡ attributes_lexemes (Rattle.td_tree.specs.model.Trees.only ns)
 braced_names_are (g.names p) = rw (names_are p) refl
 
 attribute_list_is : {xs : List Lexeme} {a : Attributes} → AttributeListSpelling xs a → xs ≡ attributes_lexemes a

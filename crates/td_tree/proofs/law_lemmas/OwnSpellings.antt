@@ -2,13 +2,13 @@
 use Rattle.std.proofs.Common.{◌≡◌, List, [], ◌∷◌, ◌++◌, refl, sym, subst, append-nil, Bool, true, false}
 use Rattle.td_tree.specs.declared.operator.Level.{Level}
 use Rattle.td_tree.specs.declared.operator.Level.TheVariants as levels
-use Rattle.td_tree.specs.Grammar as g
-use Rattle.td_tree.specs.Grammar.{AttributesSpelling, ExpressionsSpelling, HeadingSpelling, ListSpelling, PartsSpelling, Spelling, TypeSpelling, loosest}
-use Rattle.td_tree.specs.Lexemes.{Lexeme}
-use Rattle.td_tree.specs.Lexemes as lexeme
-use Rattle.td_tree.specs.Prints.{all_lexemes, attribute_lexemes, commas, following, heading_lexemes, lexemes_of, part_lexemes, type_lexemes}
-use Rattle.td_tree.specs.Trees as trees
-use Rattle.td_tree.specs.Trees.{AttributeTrees, NamedTrees, Text, Tree, Trees, TypeTree}
+use Rattle.td_tree.specs.model.Grammar as g
+use Rattle.td_tree.specs.model.Grammar.{AttributesSpelling, ExpressionsSpelling, HeadingSpelling, ListSpelling, PartsSpelling, Spelling, TypeSpelling, loosest}
+use Rattle.td_tree.specs.model.Lexemes.{Lexeme}
+use Rattle.td_tree.specs.model.Lexemes as lexeme
+use Rattle.td_tree.specs.model.Prints.{all_lexemes, attribute_lexemes, commas, following, heading_lexemes, lexemes_of, part_lexemes, type_lexemes}
+use Rattle.td_tree.specs.model.Trees as trees
+use Rattle.td_tree.specs.model.Trees.{AttributeTrees, NamedTrees, Text, Tree, Trees, TypeTree}
 use Rattle.td_tree.specs.code.Written.{comma_lexeme_if}
 
 -- ---- types

@@ -3,9 +3,9 @@ use Rattle.std.proofs.Common.{◌≡◌, ℕ, suc, ◌+◌, ◌-◌, ◌≤◌, 
 use Rattle.std.specs.List.{flat_map}
 use Rattle.std.proofs.lemmas.Grind.{flat_map-append}
 use Rattle.std.proofs.lemmas.List.{take_at}
-use Rattle.td_tree.specs.Division as Division
-use Rattle.td_tree.specs.Pieces.{begins, continues, pieces}
-use Rattle.td_tree.specs.Symbols.{Symbol, symbol_at, symbols, spell}
+use Rattle.td_tree.specs.model.Division as Division
+use Rattle.td_tree.specs.model.Pieces.{begins, continues, pieces}
+use Rattle.td_tree.specs.model.Symbols.{Symbol, symbol_at, symbols, spell}
 use Rattle.td_tree.proofs.law_lemmas.DivisionLaws.{rest_of}
 use Rattle.td_tree.proofs.code_lemmas.StableBytes.{spelled, cuts}
 use Rattle.td_tree.proofs.law_lemmas.SymbolLaws.{symbols_step}

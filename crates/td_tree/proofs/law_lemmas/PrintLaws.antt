@@ -10,17 +10,17 @@ use Rattle.std.proofs.lemmas.Str.{IsUtf8-from_is_utf8, is_utf8-from_IsUtf8}
 use Rattle.td_tree.specs.declared.operator.Level.{Level}
 use Rattle.td_tree.specs.declared.token.Kind.{Kind}
 use Rattle.td_tree.specs.declared.token.Kind.TheVariants as kinds
-use Rattle.td_tree.specs.Grammar.{TypeSpelling, IsExpression}
-use Rattle.td_tree.specs.Lexemes.{Lexeme, printed_text, spaced_text}
-use Rattle.td_tree.specs.Lexemes as lexeme
-use Rattle.td_tree.specs.Names.{is_name, is_word, begins_the}
-use Rattle.td_tree.specs.Numbers.{decimal_value}
-use Rattle.td_tree.specs.Prints.{lexemes_of, type_lexemes, print, type_print}
-use Rattle.td_tree.specs.Spaced.{AreItsOwnLexemes, AreItsOwnTypeLexemes, IsSpaced, PrintIsSpaced, TypePrintIsSpaced, texts_of, with_spaces}
-use Rattle.td_tree.specs.Statements.{PlacedToken, tokens}
-use Rattle.td_tree.specs.TextTokens.{content, text_in_quotes}
-use Rattle.td_tree.specs.TokenLexemes.{is_the_word, is_quoted_text, lexeme_of, lexemes}
-use Rattle.td_tree.specs.Trees.{Tree, TypeTree}
+use Rattle.td_tree.specs.model.Grammar.{TypeSpelling, IsExpression}
+use Rattle.td_tree.specs.model.Lexemes.{Lexeme, printed_text, spaced_text}
+use Rattle.td_tree.specs.model.Lexemes as lexeme
+use Rattle.td_tree.specs.model.Names.{is_name, is_word, begins_the}
+use Rattle.td_tree.specs.model.Numbers.{decimal_value}
+use Rattle.td_tree.specs.model.Prints.{lexemes_of, type_lexemes, print, type_print}
+use Rattle.td_tree.specs.laws.Spaced.{AreItsOwnLexemes, AreItsOwnTypeLexemes, IsSpaced, PrintIsSpaced, TypePrintIsSpaced, texts_of, with_spaces}
+use Rattle.td_tree.specs.model.Statements.{PlacedToken, tokens}
+use Rattle.td_tree.specs.model.TextTokens.{content, text_in_quotes}
+use Rattle.td_tree.specs.model.TokenLexemes.{is_the_word, is_quoted_text, lexeme_of, lexemes}
+use Rattle.td_tree.specs.model.Trees.{Tree, TypeTree}
 use Rattle.td_tree.proofs.law_lemmas.CharacterLaws.{both}
 use Rattle.td_tree.proofs.law_lemmas.OtherTexts.{number_stands, decimal_again, decimal_digits, sign_stands, text_stands}
 use Rattle.td_tree.proofs.law_lemmas.OwnLexemes.{expression_is, type_is}

@@ -9,14 +9,14 @@ use Rattle.std.proofs.lemmas.Str.{is_utf8-from_IsUtf8, IsUtf8-from_is_utf8}
 use Rattle.td_tree.specs.declared.piece.Piece.{Piece}
 use Rattle.td_tree.specs.declared.piece.Piece.TheVariants as pieces_are
 use Rattle.td_tree.specs.declared.token.Kind.TheVariants as kinds
-use Rattle.td_tree.specs.Keywords.{keyword_of}
-use Rattle.td_tree.specs.Names.{begins_the}
-use Rattle.td_tree.specs.Pieces.{is_character, kind_after, kind_of, state, text_kind, word_kind, word_kind_of}
-use Rattle.td_tree.specs.Spans.{AreOfTheirKind, AreTexts}
-use Rattle.td_tree.specs.Spellings.{characters, quote, quotes_doubled, IsText}
-use Rattle.td_tree.specs.Statements.{PlacedToken, tokens}
-use Rattle.td_tree.specs.Symbols.{Symbol, front_bytes, front_char, symbol_of, symbol_at, symbols_from, symbols, spell}
-use Rattle.td_tree.specs.TextTokens.{with_quotes_doubled, text_in_quotes, IsQuotedText}
+use Rattle.td_tree.specs.model.Keywords.{keyword_of}
+use Rattle.td_tree.specs.model.Names.{begins_the}
+use Rattle.td_tree.specs.model.Pieces.{is_character, kind_after, kind_of, state, text_kind, word_kind, word_kind_of}
+use Rattle.td_tree.specs.laws.Spans.{AreOfTheirKind, AreTexts}
+use Rattle.td_tree.specs.laws.Spellings.{characters, quote, quotes_doubled, IsText}
+use Rattle.td_tree.specs.model.Statements.{PlacedToken, tokens}
+use Rattle.td_tree.specs.model.Symbols.{Symbol, front_bytes, front_char, symbol_of, symbol_at, symbols_from, symbols, spell}
+use Rattle.td_tree.specs.model.TextTokens.{with_quotes_doubled, text_in_quotes, IsQuotedText}
 use Rattle.td_tree.proofs.law_lemmas.DecodeLaws.{found_is}
 use Rattle.td_tree.proofs.law_lemmas.FrontLaws.{ascii_byte, ascii_bytes, ascii_char}
 use Rattle.td_tree.proofs.law_lemmas.KindLaws.{as_spelled}

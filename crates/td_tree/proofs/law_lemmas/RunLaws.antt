@@ -4,10 +4,10 @@ use Rattle.std.specs.Prelude.{◌==◌, ◌&&◌}
 use Rattle.std.specs.List.{list_all}
 use Rattle.std.proofs.lemmas.Bool.Decides.{nat_tests}
 use Rattle.td_tree.specs.declared.piece.Piece.{Piece}
-use Rattle.td_tree.specs.Division as division
-use Rattle.td_tree.specs.Pieces.{begins, continues, opens, goes_on, is_character, state}
-use Rattle.td_tree.specs.Spellings.{characters}
-use Rattle.td_tree.specs.Symbols.{Symbol}
+use Rattle.td_tree.specs.model.Division as division
+use Rattle.td_tree.specs.model.Pieces.{begins, continues, opens, goes_on, is_character, state}
+use Rattle.td_tree.specs.laws.Spellings.{characters}
+use Rattle.td_tree.specs.model.Symbols.{Symbol}
 
 -- the machine over characters, from a piece so far
 abbrev pub run : Option Piece → List (Option ℕ) → Option Piece

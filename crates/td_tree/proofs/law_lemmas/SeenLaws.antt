@@ -3,11 +3,11 @@ use Rattle.std.proofs.Common.{◌≡◌, ℕ, ◌+◌, ◌<◌, List, [], ◌∷
 use Rattle.td_tree.specs.declared.piece.Piece.TheVariants as pieces_are
 use Rattle.td_tree.specs.declared.token.Sign.{Sign}
 use Rattle.td_tree.specs.declared.token.Sign.TheVariants as signs
-use Rattle.td_tree.specs.Lexemes.{Lexeme, printed_text, sign}
-use Rattle.td_tree.specs.Lists.{with_braces, with_parentheses}
-use Rattle.td_tree.specs.Pieces.{goes_on, kind_after, opens, sign_at, sign_goes_on}
-use Rattle.td_tree.specs.Statements.{token_of, tokens}
-use Rattle.td_tree.specs.TokenLexemes.{lexemes}
+use Rattle.td_tree.specs.model.Lexemes.{Lexeme, printed_text, sign}
+use Rattle.td_tree.specs.model.Lists.{with_braces, with_parentheses}
+use Rattle.td_tree.specs.model.Pieces.{goes_on, kind_after, opens, sign_at, sign_goes_on}
+use Rattle.td_tree.specs.model.Statements.{token_of, tokens}
+use Rattle.td_tree.specs.model.TokenLexemes.{lexemes}
 use Rattle.td_tree.proofs.law_lemmas.ApartLaws.{ends_alone, next_token}
 use Rattle.td_tree.proofs.law_lemmas.Boundaries.{IsBounded}
 use Rattle.td_tree.proofs.law_lemmas.PlainLexemes.{IsPlain}

@@ -6,10 +6,10 @@ use Rattle.std.proofs.str.Laws.{order}
 use Rattle.std.proofs.lemmas.Grind.{flat_map-append}
 use Rattle.std.proofs.lemmas.List.{take-append-le, take_all, length-take-le, drop_at, length-append}
 use Rattle.td_tree.specs.declared.token.Kind.{Kind}
-use Rattle.td_tree.specs.Pieces.{pieces, kind_of}
-use Rattle.td_tree.specs.Spans.{AreOfTheirKind}
-use Rattle.td_tree.specs.Statements.{PlacedToken, token_of, tokens_from, tokens}
-use Rattle.td_tree.specs.Symbols.{Symbol, front_bytes, front_char, symbol_of, symbol_at, symbols, spell}
+use Rattle.td_tree.specs.model.Pieces.{pieces, kind_of}
+use Rattle.td_tree.specs.laws.Spans.{AreOfTheirKind}
+use Rattle.td_tree.specs.model.Statements.{PlacedToken, token_of, tokens_from, tokens}
+use Rattle.td_tree.specs.model.Symbols.{Symbol, front_bytes, front_char, symbol_of, symbol_at, symbols, spell}
 use Rattle.td_tree.proofs.law_lemmas.FrontLaws.{part_is_none}
 use Rattle.td_tree.proofs.law_lemmas.EndOfStatement.{divides}
 use Rattle.td_tree.proofs.law_lemmas.PieceLaws.{joined, symbols_after}

@@ -1,8 +1,8 @@
 -- Bytes that are a token by themselves, and the tokens of a text in which boundaries stand between.
 use Rattle.std.proofs.Common.{◌≡◌, ℕ, ◌+◌, List, [], ◌∷◌, ◌++◌, length, true, Some, None, refl, sym, ap, ◌∙◌, arith, append-nil}
-use Rattle.td_tree.specs.Pieces.{goes_on, kind_after, opens, state}
-use Rattle.td_tree.specs.Statements.{PlacedToken, token_of, tokens}
-use Rattle.td_tree.specs.Symbols.{symbols}
+use Rattle.td_tree.specs.model.Pieces.{goes_on, kind_after, opens, state}
+use Rattle.td_tree.specs.model.Statements.{PlacedToken, token_of, tokens}
+use Rattle.td_tree.specs.model.Symbols.{symbols}
 use Rattle.td_tree.specs.declared.piece.Piece.{Piece}
 use Rattle.td_tree.specs.declared.token.Kind.{Kind}
 use Rattle.td_tree.proofs.law_lemmas.ApartLaws.{ends_alone, ends_bounded, next_token}

@@ -2,10 +2,10 @@
 use Rattle.std.proofs.Common.{◌≡◌, ℕ, ◌+◌, List, [], ◌∷◌, ◌++◌, length, refl, sym, ap, ◌∙◌, arith, Bool, true, false, Option, Some, None, if◌then◌else◌, append_assoc, ⊎_elim}
 use Rattle.std.specs.Prelude.{option_map}
 use Rattle.td_tree.specs.declared.token.Kind.{Kind}
-use Rattle.td_tree.specs.Division.{up_to}
-use Rattle.td_tree.specs.Pieces.{kind_of}
-use Rattle.td_tree.specs.Statements.{PlacedToken, token_of, tokens_from, is_end, ends, put, split}
-use Rattle.td_tree.specs.Symbols.{Symbol, spell}
+use Rattle.td_tree.specs.model.Division.{up_to}
+use Rattle.td_tree.specs.model.Pieces.{kind_of}
+use Rattle.td_tree.specs.model.Statements.{PlacedToken, token_of, tokens_from, is_end, ends, put, split}
+use Rattle.td_tree.specs.model.Symbols.{Symbol, spell}
 use Rattle.td_tree.proofs.law_lemmas.EndLaws.{up_to_cases}
 use Rattle.td_tree.proofs.law_lemmas.PieceLaws.{size, size-cons}
 

@@ -4,7 +4,7 @@ use Rattle.std.specs.Prelude.{if◌then◌else◌, slice_get, slice_index}
 use Rattle.std.specs.Str.{is_utf8, chars, continuation_len}
 use Rattle.std.proofs.lemmas.List.{take-append-le, length-take, take_all}
 use Rattle.std.proofs.str.Laws.{order}
-use Rattle.td_tree.specs.Symbols.{front_char, front_bytes, Symbol, symbol_of, symbol_at, symbols_from, symbols}
+use Rattle.td_tree.specs.model.Symbols.{front_char, front_bytes, Symbol, symbol_of, symbol_at, symbols_from, symbols}
 use Rattle.td_tree.proofs.law_lemmas.FrontLaws.{part_is_none, past_ascii_is_none, ascii_char, ascii_bytes}
 
 pub skipped : (n : ℕ) (bs : List ℕ) → symbols_from n bs ≡ symbols (drop n bs)

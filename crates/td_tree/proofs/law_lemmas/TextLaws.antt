@@ -2,8 +2,8 @@
 use Rattle.std.proofs.Common.{◌≡◌, ℕ, List, [], ◌∷◌, ◌++◌, refl, sym, ap, ◌∙◌, subst, true, false, Option, Some, None, if◌then◌else◌, ◌⊎◌, inl, inr}
 use Rattle.td_tree.specs.declared.piece.Piece.{Piece}
 use Rattle.td_tree.specs.declared.piece.Piece.TheVariants.{OpenText, Text}
-use Rattle.td_tree.specs.Pieces.{opens, goes_on, is_character}
-use Rattle.td_tree.specs.Spellings.{quote, quotes_doubled, IsOpenText, IsText, IsSpelled}
+use Rattle.td_tree.specs.model.Pieces.{opens, goes_on, is_character}
+use Rattle.td_tree.specs.laws.Spellings.{quote, quotes_doubled, IsOpenText, IsText, IsSpelled}
 use Rattle.td_tree.proofs.law_lemmas.DivisionLaws.{run-append}
 use Rattle.td_tree.proofs.law_lemmas.RunLaws.{run, spelled_state, same_character}
 

@@ -4,7 +4,7 @@ use Rattle.std.specs.Prelude.{◌==◌}
 use Rattle.std.specs.Str.{IsAscii, is_utf8}
 use Rattle.std.proofs.lemmas.List.{take_at, drop_at, get_or_at}
 use Rattle.std.proofs.lemmas.Str.{is_utf8-from_IsUtf8, IsUtf8-append, IsUtf8-drop, IsUtf8-from_ascii, IsUtf8-from_is_utf8, IsUtf8-nil, IsUtf8-take, IsCharBoundary-after_ascii, IsCharBoundary-before_ascii}
-use Rattle.td_tree.specs.TextTokens.{with_quotes_doubled, text_in_quotes, with_quotes_undoubled, content}
+use Rattle.td_tree.specs.model.TextTokens.{with_quotes_doubled, text_in_quotes, with_quotes_undoubled, content}
 use Rattle.td_tree.proofs.law_lemmas.RunLaws.{same_number}
 use Rattle.td_tree.proofs.law_lemmas.FrontLaws.{invalid}
 

@@ -8,8 +8,8 @@ use Rattle.std.proofs.Math.Utf8.{encode, encodes, scalars}
 use lib.Utf8.{scalar as is_scalar}
 use Rattle.std.proofs.lemmas.Bool.Decides.{nat_tests}
 use Rattle.std.proofs.lemmas.Str.{encodes-chars, scalars-chars, chars-encodes, char_from_byte, IsUtf8-from_is_utf8, encode_ascii}
-use Rattle.td_tree.specs.Names.{is_word, is_word_start, is_word_more, begins_the}
-use Rattle.td_tree.specs.TokenLexemes.{is_the_word}
+use Rattle.td_tree.specs.model.Names.{is_word, is_word_start, is_word_more, begins_the}
+use Rattle.td_tree.specs.model.TokenLexemes.{is_the_word}
 use Rattle.td_tree.proofs.law_lemmas.CharacterLaws.{both}
 use Rattle.td_tree.proofs.law_lemmas.WordStarts.{ascii_start, ascii_more}
 

@@ -6,11 +6,12 @@ use Rattle.std.proofs.lemmas.Grind.{flat_map-append}
 use Rattle.std.proofs.lemmas.List.{take_at, drop_at}
 use Rattle.td_tree.specs.declared.token.Kind.{Kind}
 use Rattle.td_tree.specs.declared.piece.Piece.{Piece}
-use Rattle.td_tree.specs.Division.{IsDivision, up_to}
-use Rattle.td_tree.specs.Pieces.{begins, continues, pieces, kind_of, state}
-use Rattle.td_tree.specs.Spans.{AreSlices, Ascends}
-use Rattle.td_tree.specs.Statements.{PlacedToken, token_of, tokens_from, tokens, ends, put, split, statements, IsEnded, IsUnended, AreStatements}
-use Rattle.td_tree.specs.Symbols.{Symbol, symbols, spell}
+use Rattle.td_tree.specs.model.Division.{IsDivision, up_to}
+use Rattle.td_tree.specs.model.Pieces.{begins, continues, pieces, kind_of, state}
+use Rattle.td_tree.specs.laws.Spans.{AreSlices, Ascends}
+use Rattle.td_tree.specs.model.Statements.{PlacedToken, token_of, tokens_from, tokens, ends, put, split, statements, IsEnded, IsUnended}
+use Rattle.td_tree.specs.laws.TokenLaws.{AreStatements}
+use Rattle.td_tree.specs.model.Symbols.{Symbol, symbols, spell}
 use Rattle.td_tree.proofs.law_lemmas.EndLaws.{up_to_cases}
 use Rattle.td_tree.proofs.law_lemmas.EndOfStatement.{divides}
 use Rattle.td_tree.proofs.law_lemmas.PieceLaws.{joined, size, size-cons}

@@ -6,8 +6,8 @@ use Rattle.std.proofs.lemmas.Bool.Decides.{nat_tests}
 use Rattle.unicode_ident.proofs.Computing.{unicode_ident}
 use Rattle.unicode_ident.proofs.IdentLemmas.{is_xid_start-ascii, is_xid_continue-ascii}
 use Rattle.td_tree.specs.declared.token.Sign.{Sign}
-use Rattle.td_tree.specs.Names.{is_word_start, is_word_more}
-use Rattle.td_tree.specs.Pieces.{is_blank, sign_at}
+use Rattle.td_tree.specs.model.Names.{is_word_start, is_word_more}
+use Rattle.td_tree.specs.model.Pieces.{is_blank, sign_at}
 use Rattle.td_tree.proofs.law_lemmas.RunLaws.{same_number}
 
 -- in ASCII a word begins with a letter or `_`

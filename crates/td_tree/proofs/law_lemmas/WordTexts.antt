@@ -10,11 +10,11 @@ use Rattle.td_tree.specs.declared.keyword.Keyword.{Keyword}
 use Rattle.td_tree.specs.declared.keyword.Keyword.TheVariants.{Add}
 use Rattle.td_tree.specs.declared.piece.Piece.TheVariants.{Word}
 use Rattle.td_tree.specs.declared.token.Kind.TheVariants as kinds
-use Rattle.td_tree.specs.Keywords.{keyword_of, word_of}
-use Rattle.td_tree.specs.Names.{is_name, is_word, is_word_start, is_word_more, begins_the}
-use Rattle.td_tree.specs.Pieces.{passes, word_kind, word_kind_of}
-use Rattle.td_tree.specs.Spellings.{is_word_spelled}
-use Rattle.td_tree.specs.Symbols.{symbols}
+use Rattle.td_tree.specs.model.Keywords.{keyword_of, word_of}
+use Rattle.td_tree.specs.model.Names.{is_name, is_word, is_word_start, is_word_more, begins_the}
+use Rattle.td_tree.specs.model.Pieces.{passes, word_kind, word_kind_of}
+use Rattle.td_tree.specs.laws.Spellings.{is_word_spelled}
+use Rattle.td_tree.specs.model.Symbols.{symbols}
 use Rattle.td_tree.proofs.law_lemmas.Boundaries.{word_ends}
 use Rattle.td_tree.proofs.law_lemmas.CharacterLaws.{both, characters_are}
 use Rattle.td_tree.proofs.law_lemmas.KindLaws.{as_spelled}

@@ -1,7 +1,7 @@
 -- How the logic stores a cause: by its number.
 use Rattle.std.specs.Prelude.{◌≡◌, ℕ, ◌==◌, if◌then◌else◌, refl, Option}
 use Rattle.std.specs.Coded.{Coded, code_by, coded_ℕ, coded_option}
-use Rattle.td_tree.specs.Causes.{number_of}
+use Rattle.td_tree.specs.model.Causes.{number_of}
 use Rattle.td_tree.specs.declared.cause.Cause.{Cause}
 use Rattle.td_tree.specs.declared.cause.Cause.TheVariants.{Scan, Syntax, NameUnknown, NameTaken, TypeMismatch, Heading, KeyDeclaration, Rank, InUse, NotAssignable, Transaction, Overflow, ZeroDivisor, EmptyAggregate, NotOneTuple, TypeConstraint, NotDisjoint, NotIncluded, Key, Constraint}
 

@@ -2,7 +2,7 @@
 use Rattle.std.specs.Prelude.{◌≡◌, IfOk, Result}
 use Rattle.std.specs.Global.{Box}
 use Rattle.td_tree.specs.declared.expression.Expr.{Expr}
-use Rattle.td_tree.specs.Trees as trees
+use Rattle.td_tree.specs.model.Trees as trees
 use Rattle.td_tree.specs.code.TreeViews.{tree_view}
 
 -- if there is an expression, it stands for this tree (own)

@@ -3,7 +3,7 @@ use Rattle.std.specs.Prelude.{◌≡◌, ℕ, Bool, true, false, List, [], ◌�
 use Rattle.std.specs.Char.{to_ascii_lowercase}
 use Rattle.std.specs.List.{flat_map, list_all}
 use Rattle.td_tree.specs.declared.keyword.Keyword.{Keyword}
-use Rattle.td_tree.specs.Keywords.{keywords, word_of}
+use Rattle.td_tree.specs.model.Keywords.{keywords, word_of}
 
 -- whether a word begins with this letter, which is in lower case
 unfoldable pub begins : ℕ → List ℕ → Bool

@@ -14,7 +14,7 @@ use Rattle.td_tree.specs.declared.operator.Prefix.{Prefix}
 use Rattle.td_tree.specs.declared.operator.Prefix.TheVariants as prefixes
 use Rattle.td_tree.specs.declared.operator.Style.{Style}
 use Rattle.td_tree.specs.declared.operator.Style.TheVariants as styles
-use Rattle.td_tree.specs.Trees.{Text, Literal, number, text, truth, table_dee, table_dum, Attributes, only, all_but, Renaming, Postfix, project, rename, group, ungroup, wrap, unwrap}
+use Rattle.td_tree.specs.model.Trees.{Text, Literal, number, text, truth, table_dee, table_dum, Attributes, only, all_but, Renaming, Postfix, project, rename, group, ungroup, wrap, unwrap}
 
 abbrev pub bytes_to : Text → Gv
 bytes_to [] = gnil

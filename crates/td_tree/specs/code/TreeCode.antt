@@ -5,8 +5,8 @@ use Rattle.std.specs.Coded.{Coded, code_by}
 use base.Stored.{Gv, gnil, gnum, gcons}
 use denote.Struct.Codes.{itself}
 use Rattle.td_tree.specs.code.NodeCode.{aggregate_number, aggregate_numbered, aggregate_back, attributes_to, attributes_from, attributes_back, bytes_to, bytes_from, bytes_back, comparison_number, comparison_numbered, comparison_back, literal_to, literal_from, literal_back, measure_number, measure_numbered, measure_back, number_in, operator_number, operator_numbered, operator_back, postfix_to, postfix_from, postfix_back, prefix_number, prefix_numbered, prefix_back}
-use Rattle.td_tree.specs.Trees.{TypeTree, AttributeTrees, no_attributes, Tree, literal, name, parentheses, prefix, extract, restriction, binary, compare, postfix, select, component, measure, aggregate, relation, headed_relation, tuple, extend, extend_setting, summarize_per, summarize_by, choice, binding, Trees, none, more, NamedTrees, none_named, more_named, Summaries, no_summaries, counted, summed}
-use Rattle.td_tree.specs.Trees as t
+use Rattle.td_tree.specs.model.Trees.{TypeTree, AttributeTrees, no_attributes, Tree, literal, name, parentheses, prefix, extract, restriction, binary, compare, postfix, select, component, measure, aggregate, relation, headed_relation, tuple, extend, extend_setting, summarize_per, summarize_by, choice, binding, Trees, none, more, NamedTrees, none_named, more_named, Summaries, no_summaries, counted, summed}
+use Rattle.td_tree.specs.model.Trees as t
 
 -- a node: its number and its three parts
 abbrev node : ℕ → Gv → Gv → Gv → Gv

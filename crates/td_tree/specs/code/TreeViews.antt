@@ -21,8 +21,8 @@ use Rattle.td_tree.specs.declared.statement.Statement.TheVariants as q
 use Rattle.td_tree.specs.declared.type_tree.AttributeTree.{AttributeTree}
 use Rattle.td_tree.specs.declared.type_tree.TypeTree.{TypeTree, Row_of-AttributeTree, end_of-AttributeTree, more_of-AttributeTree}
 use Rattle.td_tree.specs.declared.type_tree.TypeTree.TheVariants as t
-use Rattle.td_tree.specs.Trees as trees
-use Rattle.td_tree.specs.Trees.{Text}
+use Rattle.td_tree.specs.model.Trees as trees
+use Rattle.td_tree.specs.model.Trees.{Text}
 
 abbrev mutual
   pub type_tree_view : TypeTree → trees.TypeTree

@@ -2,7 +2,7 @@
 use Rattle.std.specs.Prelude.{◌≡◌, ℕ, Bool, true, false, List, [], ◌∷◌, ◌++◌, IfOk, Result, codes}
 use Rattle.std.specs.List.{flat_map}
 use Rattle.td_tree.specs.declared.token.Sign.TheVariants as signs
-use Rattle.td_tree.specs.Lexemes.{Lexeme, sign, printed_text}
+use Rattle.td_tree.specs.model.Lexemes.{Lexeme, sign, printed_text}
 
 -- each lexeme with a space behind it
 abbrev pub written_text : List Lexeme → List ℕ

@@ -1,6 +1,6 @@
 -- How deep headings nest, so that recursion over types ends.
 use Rattle.std.specs.Prelude.{ℕ, suc, max}
-use Rattle.td_types.specs.Types.{Type', boolean, integer, char, user, tuple, relation, Attrs, no_attrs, attr, Heading, pack}
+use Rattle.td_types.specs.model.Types.{Type', boolean, integer, char, user, tuple, relation, Attrs, no_attrs, attr, Heading, pack}
 
 abbrev mutual
   pub type_depth : Type' → ℕ

@@ -1,7 +1,7 @@
 -- What the tests of names tell.
 use Rattle.std.specs.Prelude.{◌≡◌, ◌↔◌, ℕ, List, Some, IsTrue}
 use Rattle.std.specs.List.{Contains, slice_get}
-use Rattle.td_types.specs.Headings.{are_distinct, has_name}
+use Rattle.td_types.specs.model.Headings.{are_distinct, has_name}
 
 -- no name stands at two places
 abbrev pub AreDistinct : List (List ℕ) → Type 0

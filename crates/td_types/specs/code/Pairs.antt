@@ -1,8 +1,8 @@
 -- Pairs of a name and a type, as the code has them.
 use Rattle.std.specs.Prelude.{ℕ, List}
 use Rattle.std.specs.List.{AllByRecursion}
-use Rattle.td_tree.specs.Names.{IsName}
-use Rattle.td_types.specs.Types.{Attribute, Heading, IsType}
+use Rattle.td_tree.specs.model.Names.{IsName}
+use Rattle.td_types.specs.model.Types.{Attribute, Heading, IsType}
 use Rattle.td_types.specs.code.Views.{type_view}
 use Rattle.td_types.specs.declared.ty.Ty.{Ty}
 

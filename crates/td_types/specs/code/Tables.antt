@@ -1,8 +1,8 @@
 -- What a table of declared types stands for, and what it keeps beside them.
 use Rattle.std.specs.Prelude.{◌≡◌, ◌+◌, ℕ, List, map, min, Option, Some, None}
 use Rattle.std.specs.List.{AllByRecursion}
-use Rattle.td_tree.specs.Outcomes.{Outcome, Valued, Refused}
-use Rattle.td_types.specs.TypeLists.{AreDeclared, DeclaredType, rank_limit, user_ranks}
+use Rattle.td_tree.specs.model.Outcomes.{Outcome, Valued, Refused}
+use Rattle.td_types.specs.model.TypeLists.{AreDeclared, DeclaredType, rank_limit, user_ranks}
 use Rattle.td_types.specs.declared.table.Row.{Row}
 
 -- a rank as a table keeps it: none where there is none, and all above the limit as one

@@ -5,8 +5,8 @@ use Rattle.std.specs.Coded.{Coded, code_by}
 use base.Stored.{Gv, gnil, gnum, gcons}
 use denote.Struct.Codes.{itself}
 use Rattle.td_tree.specs.code.NodeCode.{bytes_back, bytes_from, bytes_to}
-use Rattle.td_types.specs.Keys.{Key, key, Keys, no_keys, more}
-use Rattle.td_types.specs.Types.{Type', boolean, integer, char, user, tuple, relation, Attrs, no_attrs, attr, Heading, pack, unpack}
+use Rattle.td_types.specs.code.Keys.{Key, key, Keys, no_keys, more}
+use Rattle.td_types.specs.model.Types.{Type', boolean, integer, char, user, tuple, relation, Attrs, no_attrs, attr, Heading, pack, unpack}
 
 pub unpack_pack : (xs : Heading) → unpack (pack xs) ≡ xs
 unpack_pack [] = refl

@@ -2,10 +2,10 @@
 use Rattle.std.specs.Prelude.{ℕ, List, Option, refl}
 use Rattle.std.specs.Coded.{Coded, code_by, coded×, coded_list, coded_ℕ, coded_option}
 use Rattle.td_tree.specs.code.TreeCode.{tree_code}
-use Rattle.td_tree.specs.Trees.{Tree}
+use Rattle.td_tree.specs.model.Trees.{Tree}
 use Rattle.td_types.specs.code.TypeCode.{heading_code}
-use Rattle.td_types.specs.TypeLists.{DeclaredType, declared_type}
-use Rattle.td_types.specs.Types.{Heading}
+use Rattle.td_types.specs.model.TypeLists.{DeclaredType, declared_type}
+use Rattle.td_types.specs.model.Types.{Heading}
 
 abbrev pub declared_code : Coded DeclaredType
 declared_code =

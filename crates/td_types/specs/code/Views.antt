@@ -1,7 +1,7 @@
 -- What a type and a heading of the code stand for.
 use Rattle.std.specs.Prelude.{ℕ, List, map}
-use Rattle.td_types.specs.Types
-use Rattle.td_types.specs.Types.{Type', boolean, integer, char, user, tuple, relation, Heading, pack}
+use Rattle.td_types.specs.model.Types
+use Rattle.td_types.specs.model.Types.{Type', boolean, integer, char, user, tuple, relation, Heading, pack}
 use Rattle.td_types.specs.declared.heading.Attribute.{Attribute}
 use Rattle.td_types.specs.declared.ty.Ty.{Ty}
 use Rattle.td_types.specs.declared.ty.Ty.TheVariants.{Bool, Int, Text, User, Tup, Rel}

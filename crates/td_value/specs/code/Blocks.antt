@@ -1,7 +1,7 @@
 -- Rows of a block: lists of values, one row after the other.
 use Rattle.std.specs.Prelude.{◌≡◌, ◌≤◌, ◌+◌, ℕ, zero, suc, List, [], ◌∷◌, ◌++◌, length, drop, take, refl, ⊤}
 use Rattle.std.specs.Coded.{Coded, code_by, coded×, coded_list, coded_ℕ}
-use Rattle.td_value.specs.Values.{Val, Tuple, IsTuple, pack_parts}
+use Rattle.td_value.specs.model.Values.{Val, Tuple, IsTuple, pack_parts}
 use Rattle.td_value.specs.code.Depths.{parts_depth, tuple_depth}
 use Rattle.td_value.specs.code.ValueCode.{tuple_code}
 use Rattle.td_value.specs.code.Views.{tuple_view}

@@ -1,6 +1,6 @@
 -- How deep values nest, so that recursion over them ends.
 use Rattle.std.specs.Prelude.{ℕ, suc, max}
-use Rattle.td_value.specs.Values.{Val, boolean, integer, char, user, tuple, relation, Parts, no_parts, part, Fields, no_fields, field, Rows, no_rows, row, Tuple, Relation, UserValue, pack_fields, pack_parts, pack_rows}
+use Rattle.td_value.specs.model.Values.{Val, boolean, integer, char, user, tuple, relation, Parts, no_parts, part, Fields, no_fields, field, Rows, no_rows, row, Tuple, Relation, UserValue, pack_fields, pack_parts, pack_rows}
 
 abbrev mutual
   pub depth : Val → ℕ

@@ -2,7 +2,7 @@
 use Rattle.std.specs.Prelude.{ℕ, ◌≤◌, ◌+◌, max, List, [], ◌∷◌}
 use Rattle.std.proofs.Common.{arith}
 use Rattle.td_value.specs.code.Depths.{depth, parts_depth, rows_depth, tuple_depth}
-use Rattle.td_value.specs.Values.{Val, Tuple, pack_parts, pack_rows}
+use Rattle.td_value.specs.model.Values.{Val, Tuple, pack_parts, pack_rows}
 use Rattle.td_value.specs.declared.value.Node.{Node}
 use Rattle.td_value.specs.declared.value.Node.TheVariants.{Bool, Int, Text, User, Tup, Rel}
 use Rattle.td_value.specs.declared.relation.Rel.TheDeep.{deep-Node}

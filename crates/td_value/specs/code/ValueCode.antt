@@ -2,11 +2,11 @@
 use Rattle.std.specs.Prelude.{◌≡◌, ℕ, zero, suc, ℤ, pos, negsuc, Bool, true, false, List, [], ◌∷◌, refl}
 use Rattle.std.proofs.Common.{ap, ◌∙◌}
 use Rattle.std.specs.Coded.{Coded, code_by, coded×, coded_list, coded_ℕ}
-use Rattle.td_types.specs.Keys.{Key, key, Keys, no_keys, more, key_code}
-use Rattle.td_types.specs.Types.{Heading}
+use Rattle.td_types.specs.code.Keys.{Key, key, Keys, no_keys, more, key_code}
+use Rattle.td_types.specs.model.Types.{Heading}
 use Rattle.td_types.specs.code.TypeCode.{attrs_keys, heading_code}
-use Rattle.td_types.specs.TypeOrder.{attrs_from_keys, attrs_from_keys-attrs_keys}
-use Rattle.td_value.specs.Values.{Val, boolean, integer, char, user, tuple, relation, Parts, no_parts, part, Fields, no_fields, field, Rows, no_rows, row, Tuple, Relation, UserValue, pack_fields, unpack_fields, pack_rows, unpack_rows}
+use Rattle.td_types.specs.code.TypeOrder.{attrs_from_keys, attrs_from_keys-attrs_keys}
+use Rattle.td_value.specs.model.Values.{Val, boolean, integer, char, user, tuple, relation, Parts, no_parts, part, Fields, no_fields, field, Rows, no_rows, row, Tuple, Relation, UserValue, pack_fields, unpack_fields, pack_rows, unpack_rows}
 
 -- FALSE and TRUE as numbers, in their order
 abbrev pub bit : Bool → ℤ

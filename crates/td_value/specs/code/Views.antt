@@ -1,8 +1,8 @@
 -- What the code's nodes, tuples and relations stand for.
 use Rattle.std.specs.Prelude.{ℕ, List, map}
 use Rattle.std.specs.Rc.{rc_str_bytes}
-use Rattle.td_value.specs.Values.{Val, boolean, integer, char, user, tuple, relation, Tuple, Relation, UserValue, pack_parts, pack_fields, pack_rows}
-use Rattle.td_types.specs.Types.{Heading, pack}
+use Rattle.td_value.specs.model.Values.{Val, boolean, integer, char, user, tuple, relation, Tuple, pack_parts, pack_fields, pack_rows}
+use Rattle.td_types.specs.model.Types.{pack}
 use Rattle.td_value.specs.declared.value.Node.{Node}
 use Rattle.td_value.specs.declared.value.Node.TheVariants.{Bool, Int, Text, User, Tup, Rel}
 use Rattle.std.specs.List.{zip}
@@ -23,11 +23,3 @@ tuple_view = zip
 -- a tuple's values, in the order of their names
 abbrev pub values_of : Tuple → List Val
 values_of = map (λ e. e.1)
-
--- the relation of a heading and its ascending list of tuples
-abbrev pub relation_view : Heading → List Tuple → Relation
-relation_view h ts = record { heading = h; body = ts }
-
--- the user value of a type's name and its components
-abbrev pub user_view : List ℕ → List Val → UserValue
-user_view n vs = record { name = n; components = vs }

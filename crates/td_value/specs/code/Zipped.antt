@@ -4,9 +4,9 @@ use Rattle.std.specs.Cmp.Lexicographic.{slice_cmp}
 use Rattle.std.specs.List.{All}
 use Rattle.std.specs.List.Sorted.{IsStrictlySortedBy}
 use Rattle.std.specs.Ordering.{is_eq, nat_cmp}
-use Rattle.td_tree.specs.Names.{IsName}
-use Rattle.td_types.specs.Types.{Heading, attrs_cmp, pack}
-use Rattle.td_value.specs.Values.{Val, fields_type, pack_fields}
+use Rattle.td_tree.specs.model.Names.{IsName}
+use Rattle.td_types.specs.model.Types.{Heading, attrs_cmp, pack}
+use Rattle.td_value.specs.model.Values.{Val, fields_type, pack_fields}
 use Rattle.td_value.specs.code.Views.{tuple_view}
 
 -- whether the entries have the heading

@@ -1,7 +1,7 @@
 use Rattle.std.proofs.Common.{rules, ◌≡◌, List, Option, Some, None, option_map, codes, sym, ◌∙◌, subst}
 use Rattle.clap.specs.Words.{Row, Text, rows_of, found_of, subcommand_rows_of}
 use Rattle.clap.proofs.WalkLemmas.{first_value-rows}
-use Rattle.td.specs.CommandLine.{IsSaidBy}
+use Rattle.td.specs.model.CommandLine.{IsSaidBy}
 use Rattle.td.specs.declared.line.Line.{Line}
 use Rattle.td.proofs.line.line_of.Goals as goal
 

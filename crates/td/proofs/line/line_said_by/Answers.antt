@@ -2,7 +2,7 @@ use Rattle.std.proofs.Common.{◌≡◌, List, [], map, refl, subst, sym, true}
 use Rattle.clap.specs.Faults.{fault_of, is_simple_and_free}
 use Rattle.clap.specs.Words.{HasMatchesOf, Text, subcommand_of, subcommand_rows_of}
 use Rattle.td.proofs.Faultless.{faultless_line}
-use Rattle.td.specs.CommandLine.{IsOfMode, td_app}
+use Rattle.td.specs.model.CommandLine.{IsOfMode, td_app}
 use Rattle.td.proofs.line.line_said_by.Goals as goal
 
 pub unreachable-requires : goal.unreachable-requires

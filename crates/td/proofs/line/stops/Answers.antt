@@ -1,7 +1,7 @@
 use Rattle.std.proofs.Common.{codes, sym, ◌∙◌, subst}
 use Rattle.clap.specs.Words.{rows_of, found_of}
 use Rattle.clap.proofs.WalkLemmas.{one_text-rows}
-use Rattle.td.specs.CommandLine.{Stops}
+use Rattle.td.specs.model.CommandLine.{Stops}
 use Rattle.td.specs.declared.line.Mode.{Mode}
 use Rattle.td.proofs.line.stops.Goals as goal
 

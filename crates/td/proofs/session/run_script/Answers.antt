@@ -1,11 +1,11 @@
 use Rattle.std.proofs.Common.{sym, subst}
 use Rattle.std.specs.Prelude.{IfErr, IfOk, IsTrue}
 use Rattle.td.proofs.Written.{err_map, run_answers, run_limit, run_memory, run_read, run_write}
-use Rattle.td.specs.Sessions.{HasAnswered, HasBegunCut, HasBegunTo, IsUnderWay, OfSession, status_of}
+use Rattle.td.specs.model.Sessions.{HasAnswered, HasBegunCut, HasBegunTo, IsUnderWay, OfSession, status_of}
 use Rattle.td.specs.declared.line.Mode.{Mode}
-use Rattle.td_engine.specs.Faults.{IfMemory, IfRead, IfReadLimit, IfWrite}
-use Rattle.td_engine.specs.Scripts.{OfBroken, OfFront, OfTooMuch, script_limit}
-use Rattle.td_engine.specs.Standing.{run_of, standing}
+use Rattle.td_engine.specs.model.Faults.{IfMemory, IfRead, IfReadLimit, IfWrite}
+use Rattle.td_engine.specs.model.Scripts.{OfBroken, OfFront, OfTooMuch, script_limit}
+use Rattle.td_engine.specs.model.Standing.{run_of, standing}
 use Rattle.td.proofs.session.run_script.Goals as goal
 
 pub returns-in-Run-clause-answers : goal.returns-in-Run-clause-answers

@@ -2,11 +2,11 @@ use Rattle.std.proofs.Common.{ℕ, List, Option, subst, sym}
 use Rattle.std.specs.Prelude.{IsTrue}
 use Rattle.td.proofs.session.session_on.Goals as goal
 use Rattle.td.proofs.Written.{begun_alone}
-use Rattle.td.specs.Sessions.{HasAnswered, HasBegunCut, HasBegunTo, IsUnderWay, OfSession, status_of}
-use Rattle.td_engine.specs.Faults.{IfMemory, IfRead, IfReadLimit, IfWrite}
-use Rattle.td_engine.specs.Machine.{State, empty_state}
-use Rattle.td_engine.specs.Scripts.{OfBroken, OfFront, OfTooMuch, script_limit}
-use Rattle.td_engine.specs.Standing.{run_of, standing}
+use Rattle.td.specs.model.Sessions.{HasAnswered, HasBegunCut, HasBegunTo, IsUnderWay, OfSession, status_of}
+use Rattle.td_engine.specs.model.Faults.{IfMemory, IfRead, IfReadLimit, IfWrite}
+use Rattle.td_engine.specs.model.Machine.{State, empty_state}
+use Rattle.td_engine.specs.model.Scripts.{OfBroken, OfFront, OfTooMuch, script_limit}
+use Rattle.td_engine.specs.model.Standing.{run_of, standing}
 
 pub returns-in-Ok-clause-answers : goal.returns-in-Ok-clause-answers
 returns-in-Ok-clause-answers g c =

@@ -1,8 +1,8 @@
 //! Steps of bodies, one after another: what is answered, kept and held then.
 ghost use Rattle.std.specs.Prelude.{◌≡◌, ◌<◌, IfOk, IfSome, IsTrue, length};
 ghost use Rattle.std.specs.List.{slice_get};
-ghost use Rattle.td_types.specs.Headings.{projection};
-ghost use Rattle.td_value.specs.Values.{heading_of};
+ghost use Rattle.td_types.specs.model.Headings.{projection};
+ghost use Rattle.td_value.specs.model.Values.{heading_of};
 
 use super::outer::Outer;
 use super::{Call, body_literal, called, is_part, keyed_like, told_found};

@@ -1,7 +1,7 @@
 //! Catalogues whose base relvars change in place.
 ghost use Rattle.std.specs.Prelude.{◌≡◌, IfOk, IfSome, IsSome};
-ghost use Rattle.td_catalog.specs.Database.{base_named};
-ghost use Rattle.td_catalog.specs.TypedDatabases.{AreTyped};
+ghost use Rattle.td_catalog.specs.model.Database.{base_named};
+ghost use Rattle.td_catalog.specs.model.TypedDatabases.{AreTyped};
 
 use super::super::given::both;
 use super::super::statements::database;

@@ -1,17 +1,17 @@
 //! What is added to a catalogue, with what each call asks.
 ghost use Rattle.std.specs.Prelude.{◌≡◌, ◌∷◌, IfOk, IsTrue, Some, [], map};
 ghost use Rattle.std.specs.List.{All};
-ghost use Rattle.td_catalog.specs.Database.{database_scope};
-ghost use Rattle.td_check.specs.Scopes.{entered_with, scope_of};
-ghost use Rattle.td_check.specs.StaticTypes.{type_of};
-ghost use Rattle.td_check.specs.StatementTypes.{constraint_fits};
-ghost use Rattle.td_tree.specs.Outcomes.{Valued};
+ghost use Rattle.td_catalog.specs.model.Database.{database_scope};
+ghost use Rattle.td_check.specs.model.Scopes.{entered_with, scope_of};
+ghost use Rattle.td_check.specs.model.StaticTypes.{type_of};
+ghost use Rattle.td_check.specs.model.StatementTypes.{constraint_fits};
+ghost use Rattle.td_tree.specs.model.Outcomes.{Valued};
 ghost use Rattle.td_tree.specs.code.TreeViews.{tree_view};
-ghost use Rattle.td_types.specs.Headings.{has_attributes, has_projection};
-ghost use Rattle.td_types.specs.TypeLists.{AreKnown};
-ghost use Rattle.td_types.specs.Types.{boolean, integer, pack, relation};
+ghost use Rattle.td_types.specs.model.Headings.{has_attributes, has_projection};
+ghost use Rattle.td_types.specs.model.TypeLists.{AreKnown};
+ghost use Rattle.td_types.specs.model.Types.{boolean, integer, pack, relation};
 ghost use Rattle.td_types.specs.code.Views.{type_view};
-ghost use Rattle.td_value.specs.code.Views.{relation_view};
+ghost use Rattle.td_value.specs.model.Values.{relation_view};
 
 use super::super::given::{both, kept, list_of, made};
 use super::super::texts::{expression, name, names};

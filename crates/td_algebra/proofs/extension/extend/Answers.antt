@@ -1,11 +1,12 @@
 use Rattle.std.proofs.Common.{◌≡◌, ◌∙◌, ◌∷◌, ◌++◌, [], Bool, true, false, List, ℕ, ap, refl, subst, sym}
 use Rattle.std.specs.Prelude.{◌&&◌, not}
 use Rattle.std.proofs.lemmas.List.Elements.{All-from_recursion}
-use Rattle.td_types.specs.Headings.{are_distinct, has_attribute, have_no_common}
-use Rattle.td_types.specs.Types.{Heading, attribute_names}
+use Rattle.td_types.specs.model.Headings.{are_distinct, has_attribute, have_no_common}
+use Rattle.td_types.specs.model.Types.{Heading, attribute_names}
 use Rattle.td_types.specs.code.Views.{type_view}
-use Rattle.td_value.specs.Values.{Tuple}
-use Rattle.td_algebra.specs.Columns.{AreColumns, IsColumn, column_attributes, columns_view, new_attribute}
+use Rattle.td_value.specs.model.Values.{Tuple}
+use Rattle.td_algebra.specs.code.Columns.{AreColumns, IsColumn, column_attributes, columns_view}
+use Rattle.td_algebra.specs.model.Operators.{new_attribute}
 use Rattle.td_algebra.specs.declared.extension.Column.{Column}
 use Rattle.td_algebra.proofs.extension.extend.Goals as goal
 

@@ -1,10 +1,10 @@
 use Rattle.std.proofs.Common.{◌∙◌, ◌++◌, ap, map, sym}
-use Rattle.td_algebra.specs.Columns.{column_attributes, columns_view}
+use Rattle.td_algebra.specs.code.Columns.{column_attributes, columns_view}
 use Rattle.td_algebra.proofs.Extensions.{all_distinct, columns_moved, extension_headed, extension_heading, extension_rows, layout_range, names_of_all}
 use Rattle.td_algebra.proofs.Ascents.{extension_ascends}
 use Rattle.td_algebra.proofs.Taken.{headed_by, relation_is}
-use Rattle.td_types.specs.Headings.{are_distinct, heading_union, outside}
-use Rattle.td_types.specs.Types.{attribute_names}
+use Rattle.td_types.specs.model.Headings.{are_distinct, heading_union, outside}
+use Rattle.td_types.specs.model.Types.{attribute_names}
 use Rattle.td_algebra.proofs.extension.extend_all.Goals as goal
 
 pub extended_layout-requires : goal.extended_layout-requires

@@ -1,7 +1,7 @@
 use Rattle.std.proofs.Common.{◌≡◌, ◌∙◌, ◌++◌, ap, length, map, refl, subst, sym}
 use Rattle.std.specs.List.Sorted.{IsPermutation}
 use Rattle.std.proofs.lemmas.List.{length-map, take_all}
-use Rattle.td_algebra.specs.Columns.{cells_at}
+use Rattle.td_algebra.specs.code.Columns.{cells_at}
 use Rattle.td_algebra.specs.code.Layouts.{AreInRange}
 use Rattle.td_algebra.proofs.Extensions.{cells_long, row_in_range, row_more, row_with}
 use Rattle.td_algebra.proofs.Keys.{if_ok}

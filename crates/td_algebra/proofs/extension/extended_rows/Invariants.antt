@@ -1,9 +1,9 @@
 use Rattle.std.proofs.Common.{◌≡◌, ◌++◌, List, map, take}
 use Rattle.std.specs.List.Sorted.{IsPermutation}
-use Rattle.td_algebra.specs.Columns.{AreColumnsOf, columns_view}
+use Rattle.td_algebra.specs.code.Columns.{AreColumnsOf, columns_view}
 use Rattle.td_value.specs.code.Views.{values_of}
 use Rattle.td_algebra.specs.code.Layouts.{Sources, placed_tuple}
-use Rattle.td_algebra.specs.Operators.{Addition}
+use Rattle.td_algebra.specs.model.Operators.{Addition}
 use Rattle.td_algebra.proofs.extension.extended_rows.Given as goal
 
 abbrev pub invariant-loop-row : goal.invariant-loop-row

@@ -1,5 +1,5 @@
 use Rattle.std.proofs.Common.{◌∙◌}
-use Rattle.td_types.specs.Headings.{add_missing}
+use Rattle.td_types.specs.model.Headings.{add_missing}
 use Rattle.td_algebra.proofs.Extensions.{attribute_more, attributes_end}
 use Rattle.td_algebra.proofs.extension.heading_with.Goals as goal
 

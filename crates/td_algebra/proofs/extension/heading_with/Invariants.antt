@@ -1,6 +1,6 @@
 use Rattle.std.proofs.Common.{◌≡◌, drop}
-use Rattle.td_types.specs.Headings.{heading_union}
-use Rattle.td_algebra.specs.Columns.{column_attributes, columns_view}
+use Rattle.td_types.specs.model.Headings.{heading_union}
+use Rattle.td_algebra.specs.code.Columns.{column_attributes, columns_view}
 use Rattle.td_algebra.proofs.extension.heading_with.Given as goal
 
 abbrev pub invariant-loop-name : goal.invariant-loop-name

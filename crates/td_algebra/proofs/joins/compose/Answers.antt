@@ -2,12 +2,11 @@ use Rattle.std.proofs.Common.{◌≡◌, ◌∙◌, subst, sym}
 use Rattle.std.specs.List.{All}
 use Rattle.td_tree.specs.declared.cause.Cause.TheVariants as causes
 use Rattle.td_tree.proofs.code_lemmas.Unrefused.{unrefused_if}
-use Rattle.td_types.specs.Headings.{agree, heading_union, outside, projection}
-use Rattle.td_types.specs.Types.{IsAscending}
-use Rattle.td_value.specs.Sets.{set_of}
-use Rattle.td_value.specs.Values.{HaveSameMembers, IsTupleOf, tuple_cmp}
-use Rattle.td_value.specs.code.Views.{relation_view}
-use Rattle.td_algebra.specs.Operators.{composition}
+use Rattle.td_types.specs.model.Headings.{agree, heading_union, outside, projection}
+use Rattle.td_types.specs.model.Types.{IsAscending}
+use Rattle.td_value.specs.model.Sets.{set_of}
+use Rattle.td_value.specs.model.Values.{HaveSameMembers, IsTupleOf, tuple_cmp, relation_view}
+use Rattle.td_algebra.specs.model.Operators.{composition}
 use Rattle.td_algebra.specs.code.Pairs.{partners_paired}
 use Rattle.td_algebra.proofs.Composed.{all_composed, composed_heading_is, composed_set, either_names, rests_agree}
 use Rattle.td_algebra.proofs.Joined.{united_answer}

@@ -1,10 +1,9 @@
 use Rattle.std.proofs.Common.{◌≡◌, ◌∙◌, subst, sym, []}
 use Rattle.std.specs.List.{All}
-use Rattle.td_types.specs.Headings.{heading_union}
-use Rattle.td_value.specs.Sets.{set_of}
-use Rattle.td_value.specs.Values.{HaveSameMembers, IsTupleOf, tuple_cmp}
-use Rattle.td_value.specs.code.Views.{relation_view}
-use Rattle.td_algebra.specs.Operators.{join}
+use Rattle.td_types.specs.model.Headings.{heading_union}
+use Rattle.td_value.specs.model.Sets.{set_of}
+use Rattle.td_value.specs.model.Values.{HaveSameMembers, IsTupleOf, tuple_cmp, relation_view}
+use Rattle.td_algebra.specs.model.Operators.{join}
 use Rattle.td_algebra.specs.code.Pairs.{partners_paired}
 use Rattle.td_algebra.proofs.Joined.{joined_headed, joined_set, united_answer}
 use Rattle.td_algebra.proofs.Keys.{if_ok}

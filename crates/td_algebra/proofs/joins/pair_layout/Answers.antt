@@ -1,6 +1,6 @@
 use Rattle.std.proofs.Common.{◌≡◌, ◌∙◌, ◌++◌, ap, sym, subst}
 use Rattle.std.specs.Prelude.{IsTrue}
-use Rattle.td_types.specs.Headings.{are_distinct}
+use Rattle.td_types.specs.model.Headings.{are_distinct}
 use Rattle.td_algebra.specs.code.Layouts.{Sources, source_names, sources_outside}
 use Rattle.td_algebra.specs.code.Pairs.{pair_sources}
 use Rattle.td_algebra.proofs.Pairs.{pair_distinct}

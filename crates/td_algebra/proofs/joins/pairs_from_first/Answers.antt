@@ -1,5 +1,5 @@
 use Rattle.std.proofs.Common.{◌≡◌, ◌∙◌, refl, filter, length}
-use Rattle.td_algebra.specs.Operators.{are_partners}
+use Rattle.td_algebra.specs.model.Operators.{are_partners}
 use Rattle.td_algebra.specs.code.Pairs.{pair_tuple, pairs_with, partners_paired}
 use Rattle.td_algebra.proofs.Joined.{first_paired, from_first}
 use Rattle.td_algebra.proofs.Keys.{if_ok}

@@ -1,6 +1,6 @@
 use Rattle.std.proofs.Common.{◌≡◌, refl, filter, length, subst, sym}
-use Rattle.td_value.specs.Values.{HaveSameMembers}
-use Rattle.td_algebra.specs.Operators.{are_partners}
+use Rattle.td_value.specs.model.Values.{HaveSameMembers}
+use Rattle.td_algebra.specs.model.Operators.{are_partners}
 use Rattle.td_algebra.specs.code.Pairs.{pair_tuple, pairs_with, partners_paired}
 use Rattle.td_algebra.proofs.Joined.{from_second, second_paired}
 use Rattle.td_algebra.proofs.Keys.{if_ok}

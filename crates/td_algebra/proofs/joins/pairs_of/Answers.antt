@@ -1,7 +1,7 @@
 use Rattle.std.proofs.Common.{◌≡◌, ◌∙◌, ◌++◌, arith, map, subst, sym}
 use Rattle.std.specs.List.{All}
 use Rattle.std.proofs.lemmas.List.Elements.{All-get_or}
-use Rattle.td_algebra.specs.Lookups.{partners_in}
+use Rattle.td_algebra.specs.code.Lookups.{partners_in}
 use Rattle.td_algebra.specs.code.Pairs.{IsPaired, pair_tuple}
 use Rattle.td_algebra.proofs.Pairs.{pairs_more}
 use Rattle.td_algebra.proofs.joins.pairs_of.Goals as goal

@@ -1,5 +1,5 @@
 use Rattle.std.proofs.Common.{◌≡◌, take}
-use Rattle.td_algebra.specs.Lookups.{partners_in}
+use Rattle.td_algebra.specs.code.Lookups.{partners_in}
 use Rattle.td_algebra.specs.code.Pairs.{pair_tuple, pairs_with}
 use Rattle.td_algebra.proofs.joins.pairs_of.Given as goal
 

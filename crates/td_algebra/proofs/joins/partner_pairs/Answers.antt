@@ -1,8 +1,8 @@
 use Rattle.std.proofs.Common.{◌≡◌, ◌∙◌, ap, filter, subst, sym}
 use Rattle.std.specs.List.{All}
-use Rattle.td_value.specs.Values.{IsTupleOf}
-use Rattle.td_algebra.specs.Lookups.{partners_in}
-use Rattle.td_algebra.specs.Operators.{are_partners, relation_names}
+use Rattle.td_value.specs.model.Values.{IsTupleOf}
+use Rattle.td_algebra.specs.code.Lookups.{partners_in}
+use Rattle.td_algebra.specs.model.Operators.{are_partners, relation_names}
 use Rattle.td_algebra.specs.code.Pairs.{IsPaired, pair_tuple, pairs_with}
 use Rattle.td_algebra.proofs.Keys.{if_ok}
 use Rattle.td_algebra.proofs.OnNames.{rows_within, same_places}

@@ -1,5 +1,5 @@
 use Rattle.std.proofs.Common.{◌≡◌, subst, sym}
-use Rattle.td_value.specs.Values.{HaveSameMembers}
+use Rattle.td_value.specs.model.Values.{HaveSameMembers}
 use Rattle.td_algebra.specs.code.Pairs.{partners_paired}
 use Rattle.td_algebra.proofs.Keys.{if_ok}
 use Rattle.td_algebra.proofs.joins.partners_of_either.Goals as goal

@@ -1,6 +1,6 @@
 use Rattle.std.proofs.Common.{◌≡◌, ◌++◌, map}
 use Rattle.std.specs.List.{All}
-use Rattle.td_algebra.specs.Lookups.{partners_in}
+use Rattle.td_algebra.specs.code.Lookups.{partners_in}
 use Rattle.td_algebra.specs.code.Pairs.{IsPaired, pair_tuple}
 use Rattle.td_algebra.proofs.joins.put_pairs.Given as goal
 

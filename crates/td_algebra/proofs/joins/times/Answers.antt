@@ -1,5 +1,5 @@
 use Rattle.std.proofs.Common.{◌≡◌, ◌∙◌, sym}
-use Rattle.td_algebra.specs.Operators.{join, product}
+use Rattle.td_algebra.specs.model.Operators.{join, product}
 use Rattle.td_algebra.proofs.Joined.{apart_agree, product_join}
 use Rattle.td_algebra.proofs.Keys.{if_ok}
 use Rattle.td_algebra.proofs.joins.times.Goals as goal

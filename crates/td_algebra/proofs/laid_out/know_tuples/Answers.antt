@@ -2,7 +2,7 @@ use Rattle.std.proofs.Common.{◌∙◌, ◌++◌, ◌∷◌, [], ap, subst, sym
 use Rattle.std.specs.List.{All}
 use Rattle.std.proofs.lemmas.List.{take_all, take_more}
 use Rattle.std.proofs.lemmas.List.Elements.{All-push}
-use Rattle.td_value.specs.Values.{IsTuple}
+use Rattle.td_value.specs.model.Values.{IsTuple}
 use Rattle.td_algebra.proofs.laid_out.know_tuples.Goals as goal
 
 pub loop-tuple-preserved : goal.loop-tuple-preserved

@@ -1,5 +1,5 @@
 use Rattle.std.proofs.Common.{◌∙◌, ◌++◌, ap, map}
-use Rattle.td_types.specs.Headings.{are_distinct}
+use Rattle.td_types.specs.model.Headings.{are_distinct}
 use Rattle.td_algebra.specs.code.Layouts.{sources_outside}
 use Rattle.td_algebra.proofs.Sources.{distinct_outside}
 use Rattle.td_algebra.proofs.layout.kept_layout.Goals as goal

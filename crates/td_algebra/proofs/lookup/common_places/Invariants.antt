@@ -1,7 +1,7 @@
 use Rattle.std.proofs.Common.{take}
-use Rattle.td_types.specs.Types.{attribute_names}
-use Rattle.td_value.specs.Values.{IsTupleOf, Tuple}
-use Rattle.td_algebra.specs.Lookups.{StandAt, values_on}
+use Rattle.td_types.specs.model.Types.{attribute_names}
+use Rattle.td_value.specs.model.Values.{IsTupleOf, Tuple}
+use Rattle.td_algebra.specs.code.Lookups.{StandAt, values_on}
 use Rattle.td_algebra.proofs.lookup.common_places.Given as goal
 
 abbrev pub invariant-loop-place : goal.invariant-loop-place

@@ -1,5 +1,5 @@
 use Rattle.std.proofs.Common.{◌≡◌, drop}
-use Rattle.td_algebra.specs.Lookups.{are_same, values_at}
+use Rattle.td_algebra.specs.code.Lookups.{are_same, values_at}
 use Rattle.td_algebra.proofs.part.are_same_at.Given as goal
 
 abbrev pub invariant-loop-index : goal.invariant-loop-index

@@ -1,7 +1,7 @@
 use Rattle.std.proofs.Common.{◌≡◌, ◌∙◌, map, refl, subst, sym}
 use Rattle.std.specs.List.Sorted.{IsPermutation}
 use Rattle.std.proofs.lemmas.List.{take_all}
-use Rattle.td_value.specs.Values.{HaveSameMembers}
+use Rattle.td_value.specs.model.Values.{HaveSameMembers}
 use Rattle.td_value.specs.code.Views.{values_of}
 use Rattle.td_algebra.specs.code.Layouts.{placed_tuple}
 use Rattle.td_algebra.proofs.Distinct.{members_more, placed_more}

@@ -2,11 +2,10 @@ use Rattle.std.proofs.Common.{◌≡◌, ◌∙◌, ap, arith, length, map, subs
 use Rattle.std.specs.List.{All}
 use Rattle.std.proofs.lemmas.List.Elements.{All-map}
 use Rattle.td_tree.specs.declared.cause.Cause.TheVariants as causes
-use Rattle.td_types.specs.Headings.{projection}
-use Rattle.td_value.specs.Sets.{set_of}
-use Rattle.td_value.specs.Values.{IsTupleOf, projected_tuple, tuple_cmp}
-use Rattle.td_value.specs.code.Views.{relation_view}
-use Rattle.td_algebra.specs.Operators.{projected_relation}
+use Rattle.td_types.specs.model.Headings.{projection}
+use Rattle.td_value.specs.model.Sets.{set_of}
+use Rattle.td_value.specs.model.Values.{IsTupleOf, projected_tuple, tuple_cmp, relation_view}
+use Rattle.td_algebra.specs.model.Operators.{projected_relation}
 use Rattle.td_algebra.proofs.Distinct.{All-same_members, projected_members}
 use Rattle.td_algebra.proofs.Joined.{sets_alike}
 use Rattle.td_algebra.proofs.Keys.{if_ok}

@@ -2,7 +2,7 @@ use Rattle.std.proofs.Common.{◌∙◌, ◌++◌, ◌∷◌, [], ap, subst}
 use Rattle.std.specs.List.{Contains}
 use Rattle.std.proofs.lemmas.List.{append-nil}
 use Rattle.std.proofs.lemmas.Result.{on_ok_weaker}
-use Rattle.td_value.specs.Values.{HaveSameMembers}
+use Rattle.td_value.specs.model.Values.{HaveSameMembers}
 use Rattle.td_algebra.specs.code.Layouts.{placed_tuple}
 use Rattle.td_algebra.proofs.Distinct.{members_again}
 use Rattle.td_algebra.proofs.projection.put_unseen.Goals as goal

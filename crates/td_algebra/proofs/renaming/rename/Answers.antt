@@ -3,11 +3,11 @@ use Rattle.std.specs.List.{All}
 use Rattle.std.proofs.lemmas.List.{length-map}
 use Rattle.std.proofs.lemmas.List.Elements.{All-map}
 use Rattle.td_tree.specs.declared.cause.Cause.TheVariants as causes
-use Rattle.td_types.specs.Headings.{can_rename, heading_union, new_name, new_names, renamed_attributes}
-use Rattle.td_types.specs.Types.{Heading, IsHeading, pack}
-use Rattle.td_value.specs.Values.{IsTupleOf}
+use Rattle.td_types.specs.model.Headings.{can_rename, heading_union, new_name, new_names, renamed_attributes}
+use Rattle.td_types.specs.model.Types.{Heading, IsHeading, pack}
+use Rattle.td_value.specs.model.Values.{IsTupleOf}
 use Rattle.td_algebra.specs.code.Layouts.{numbered_sources}
-use Rattle.td_algebra.specs.Operators.{renamed_tuple}
+use Rattle.td_algebra.specs.model.Operators.{renamed_tuple}
 use Rattle.td_algebra.proofs.Renamings.{IsTupleOf-renamed, renaming_rows}
 use Rattle.td_algebra.proofs.Taken.{all_in_range, headed_by, numbered_in_range, relation_is, value_of_answer}
 use Rattle.td_algebra.proofs.renaming.rename.Goals as goal

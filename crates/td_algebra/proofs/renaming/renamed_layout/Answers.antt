@@ -1,6 +1,6 @@
 use Rattle.std.proofs.Common.{◌∙◌, ◌++◌, ap, map, subst, IfOk}
 use Rattle.std.specs.List.Sorted.{IsPermutation}
-use Rattle.td_types.specs.Headings.{are_distinct}
+use Rattle.td_types.specs.model.Headings.{are_distinct}
 use Rattle.td_algebra.specs.code.Layouts.{numbered_sources}
 use Rattle.td_algebra.proofs.Renamings.{new_names_distinct}
 use Rattle.td_algebra.proofs.Taken.{names_numbered}

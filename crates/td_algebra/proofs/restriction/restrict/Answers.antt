@@ -1,8 +1,8 @@
 use Rattle.std.proofs.Common.{◌≡◌, ◌∙◌, ap, sym, subst, Bool, List, map, filter}
 use Rattle.std.specs.List.{All}
 use Rattle.std.proofs.lemmas.List.Elements.{All-from_recursion, recursion_from_All}
-use Rattle.td_types.specs.Types.{Heading}
-use Rattle.td_value.specs.Values.{Tuple, IsAscendingBody, IsTupleOf, tuple_cmp}
+use Rattle.td_types.specs.model.Types.{Heading}
+use Rattle.td_value.specs.model.Values.{Tuple, IsAscendingBody, IsTupleOf, tuple_cmp}
 use Rattle.td_algebra.specs.code.Masks.{kept_by}
 use Rattle.td_algebra.proofs.Masks.{kept_all, kept_ascends, kept_by_test}
 use Rattle.td_algebra.proofs.restriction.restrict.Goals as goal

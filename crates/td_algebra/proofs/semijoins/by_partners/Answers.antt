@@ -2,10 +2,9 @@ use Rattle.std.proofs.Common.{◌≡◌, ◌∙◌, ap, sym, subst, filter}
 use Rattle.std.specs.List.{All, list_any}
 use Rattle.std.proofs.lemmas.List.Elements.{All-filter}
 use Rattle.std.proofs.lemmas.List.Kept.{IsStrictlySortedBy-filter}
-use Rattle.td_value.specs.Values.{IsAscendingBody, IsTupleOf, Tuple, tuple_cmp}
-use Rattle.td_value.specs.code.Views.{relation_view}
-use Rattle.td_algebra.specs.Lookups.{has_partner_in, wanted_answer}
-use Rattle.td_algebra.specs.Operators.{are_partners, relation_names, restriction}
+use Rattle.td_value.specs.model.Values.{IsAscendingBody, IsTupleOf, Tuple, tuple_cmp, relation_view}
+use Rattle.td_algebra.specs.code.Lookups.{has_partner_in, wanted_answer}
+use Rattle.td_algebra.specs.model.Operators.{are_partners, relation_names, restriction}
 use Rattle.td_algebra.proofs.Keys.{if_ok}
 use Rattle.td_algebra.proofs.OnNames.{rows_within, same_places}
 use Rattle.td_algebra.proofs.PartnersByValues.{kept_by_values}

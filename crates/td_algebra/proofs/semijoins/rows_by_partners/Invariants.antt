@@ -1,5 +1,5 @@
 use Rattle.std.proofs.Common.{◌≡◌, filter, take}
-use Rattle.td_algebra.specs.Lookups.{has_partner_in, wanted_answer}
+use Rattle.td_algebra.specs.code.Lookups.{has_partner_in, wanted_answer}
 use Rattle.td_algebra.proofs.semijoins.rows_by_partners.Given as goal
 
 abbrev pub invariant-loop-row : goal.invariant-loop-row

@@ -1,7 +1,7 @@
 use Rattle.std.proofs.Common.{◌≡◌, ◌∙◌, sym, true}
-use Rattle.td_value.specs.code.Views.{relation_view}
+use Rattle.td_value.specs.model.Values.{relation_view}
 use Rattle.td_algebra.specs.code.Merges.{is_wanted}
-use Rattle.td_algebra.specs.Operators.{intersection, restriction}
+use Rattle.td_algebra.specs.model.Operators.{intersection, restriction}
 use Rattle.td_algebra.proofs.Keys.{if_ok}
 use Rattle.td_algebra.proofs.Merges.{common_turned}
 use Rattle.td_algebra.proofs.sets.intersect.Goals as goal

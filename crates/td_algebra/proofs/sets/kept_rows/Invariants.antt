@@ -1,6 +1,6 @@
 use Rattle.std.proofs.Common.{◌≡◌, ◌++◌, drop, filter}
 use Rattle.td_algebra.specs.code.Merges.{IsAbreast, is_wanted}
-use Rattle.td_value.specs.Values.{IsAscendingBody}
+use Rattle.td_value.specs.model.Values.{IsAscendingBody}
 use Rattle.td_algebra.proofs.sets.kept_rows.Given as goal
 
 abbrev pub invariant-loop-row : goal.invariant-loop-row

@@ -1,10 +1,10 @@
 use Rattle.std.proofs.Common.{◌≡◌, ◌∙◌, ap, sym, subst, List}
 use Rattle.std.specs.List.{All}
 use Rattle.std.proofs.lemmas.List.Elements.{All-from_recursion, recursion_from_All}
-use Rattle.td_types.specs.Types.{Heading}
-use Rattle.td_value.specs.Values.{Tuple, IsAscendingBody, IsTupleOf}
+use Rattle.td_types.specs.model.Types.{Heading}
+use Rattle.td_value.specs.model.Values.{Tuple, IsAscendingBody, IsTupleOf}
 use Rattle.td_algebra.specs.code.Merges.{merged_tuples}
-use Rattle.td_algebra.specs.Operators.{union}
+use Rattle.td_algebra.specs.model.Operators.{union}
 use Rattle.td_algebra.proofs.Keys.{if_ok}
 use Rattle.td_algebra.proofs.Merges.{merged-ascends, merged-is-set, merged_all, no_rows, nothing_union, union_nothing}
 use Rattle.td_algebra.proofs.sets.union.Goals as goal

@@ -2,7 +2,7 @@ use Rattle.std.proofs.Common.{subst, sym}
 use Rattle.std.specs.List.{All}
 use Rattle.std.proofs.lemmas.List.Elements.{All-filter}
 use Rattle.std.proofs.lemmas.List.Kept.{IsStrictlySortedBy-filter}
-use Rattle.td_value.specs.Values.{IsAscendingBody, IsTupleOf, tuple_cmp}
+use Rattle.td_value.specs.model.Values.{IsAscendingBody, IsTupleOf, tuple_cmp}
 use Rattle.td_algebra.specs.code.Merges.{is_wanted}
 use Rattle.td_algebra.proofs.sets.wanted_part.Goals as goal
 

@@ -1,7 +1,7 @@
 use Rattle.std.proofs.Common.{◌≡◌, ◌∙◌, List, ℕ, ap, refl}
-use Rattle.td_types.specs.Headings.{heading_union}
-use Rattle.td_types.specs.Types.{Heading}
-use Rattle.td_algebra.specs.Columns.{column_attributes, columns_view}
+use Rattle.td_types.specs.model.Headings.{heading_union}
+use Rattle.td_types.specs.model.Types.{Heading}
+use Rattle.td_algebra.specs.code.Columns.{column_attributes, columns_view}
 use Rattle.td_algebra.specs.declared.extension.Column.{Column}
 use Rattle.td_algebra.proofs.Extensions.{columns_moved, layout_range}
 use Rattle.td_algebra.proofs.Settings.{setting_distinct, setting_headed, setting_heading, setting_rows}

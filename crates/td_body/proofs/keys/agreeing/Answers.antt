@@ -1,8 +1,8 @@
 use Rattle.std.proofs.Common.{subst, sym}
 use Rattle.std.proofs.lemmas.List.Elements.{All-filter}
 use Rattle.std.proofs.lemmas.List.Kept.{IsStrictlySortedBy-filter}
-use Rattle.td_value.specs.Agreement.{agree_on}
-use Rattle.td_value.specs.Values.{IsAscendingBody, IsTupleOf, tuple_cmp}
+use Rattle.td_value.specs.model.Agreement.{agree_on}
+use Rattle.td_value.specs.model.Values.{IsAscendingBody, IsTupleOf, tuple_cmp}
 use Rattle.td_body.proofs.keys.agreeing.Goals as goal
 
 pub of_ascending-requires-clause-headed : goal.of_ascending-requires-clause-headed

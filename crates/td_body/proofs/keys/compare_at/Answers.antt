@@ -5,7 +5,7 @@ use Rattle.std.specs.List.{slice_get}
 use Rattle.std.specs.Option.{option_cmp}
 use Rattle.std.specs.Ordering.{ordering_then}
 use Rattle.std.proofs.lemmas.List.{at_drop_more}
-use Rattle.td_value.specs.Values.{Tuple, value_cmp}
+use Rattle.td_value.specs.model.Values.{Tuple, value_cmp}
 use Rattle.td_value.specs.code.Views.{values_of}
 use Rattle.td_body.specs.code.KeyParts.{by_places}
 use Rattle.td_body.proofs.keys.compare_at.Goals as goal

@@ -3,9 +3,9 @@ use Rattle.std.specs.List.{All, IsAllAdjacentAnswer, slice_get}
 use Rattle.std.specs.List.Sorted.{IsPermutation, IsSortedBy}
 use Rattle.std.specs.Ordering.{is_lt}
 use Rattle.std.specs.Prelude.{Some}
-use Rattle.td_value.specs.Values.{Tuple, tuple_names}
-use Rattle.td_body.specs.Bodies.{key_holds}
-use Rattle.td_body.specs.code.KeyParts.{apart_at, by_places, places_from, values_at}
+use Rattle.td_value.specs.model.Values.{Tuple, tuple_names}
+use Rattle.td_body.specs.model.Bodies.{key_holds}
+use Rattle.td_body.specs.code.KeyParts.{apart_at, by_places, places_from, tuple_values_at}
 use Rattle.td_body.proofs.FirstNames.{names_all}
 use Rattle.td_body.proofs.Apart.{apart_falling, apart_permuted, apart_rising}
 use Rattle.td_body.proofs.KeyParts.{apart-at, apart_at-key, found_order, found_order_total}
@@ -15,7 +15,7 @@ use Rattle.td_body.proofs.keys.key_holds.Goals as goal
 is_apart : (key ns : List (List ℕ)) (rows : List Tuple) (places : List ℕ) (b : Bool) → places ≡ places_from 0 key ns → All (λ t. tuple_names t ≡ ns) rows
     → IsAllAdjacentAnswer (λ s t b. b ≡ is_lt (by_places places s t)) rows b → b ≡ true → true ≡ key_holds key rows
 is_apart key ns rows places true is names h e =
-    sym (apart_rising found_order found_order_total (values_at places) rows h) ∙ apart-at places rows ∙ ap (λ ps. apart_at ps rows) is ∙ apart_at-key key ns rows names
+    sym (apart_rising found_order found_order_total (tuple_values_at places) rows h) ∙ apart-at places rows ∙ ap (λ ps. apart_at ps rows) is ∙ apart_at-key key ns rows names
 is_apart key ns rows places false is names h e = cc
 
 -- what is sorted at them does not ascend where two agree
@@ -23,11 +23,11 @@ sorted_apart : (key ns : List (List ℕ)) (rows sorted : List Tuple) (places : L
     → IsPermutation rows sorted → IsSortedBy (λ s t. is_lt (by_places places s t)) sorted
     → IsAllAdjacentAnswer (λ s t b. b ≡ is_lt (by_places places s t)) sorted b → b ≡ key_holds key rows
 sorted_apart key ns rows sorted places b is names p up h =
-    by_answer b h ∙ sym (apart-at places sorted) ∙ sym (apart_permuted found_order found_order_total (values_at places) rows sorted p) ∙ apart-at places rows ∙ ap (λ ps. apart_at ps rows) is ∙ apart_at-key key ns rows names
+    by_answer b h ∙ sym (apart-at places sorted) ∙ sym (apart_permuted found_order found_order_total (tuple_values_at places) rows sorted p) ∙ apart-at places rows ∙ ap (λ ps. apart_at ps rows) is ∙ apart_at-key key ns rows names
   where
     by_answer : (b : Bool) → IsAllAdjacentAnswer (λ s t b. b ≡ is_lt (by_places places s t)) sorted b → b ≡ apart_at places sorted
-    by_answer true h = sym (apart_rising found_order found_order_total (values_at places) sorted h) ∙ apart-at places sorted
-    by_answer false h = sym (apart_falling found_order found_order_total (values_at places) sorted h.0 h.1 h.2 up) ∙ apart-at places sorted
+    by_answer true h = sym (apart_rising found_order found_order_total (tuple_values_at places) sorted h) ∙ apart-at places sorted
+    by_answer false h = sym (apart_falling found_order found_order_total (tuple_values_at places) sorted h.0 h.1 h.2 up) ∙ apart-at places sorted
 
 pub returns-then-ascend_at : goal.returns-then-ascend_at
 returns-then-ascend_at c =

@@ -3,7 +3,7 @@ use Rattle.std.specs.List.{All, slice_get}
 use Rattle.std.specs.Ordering.{is_eq}
 use Rattle.std.specs.Prelude.{Some}
 use Rattle.std.proofs.lemmas.Option.{get_or_from_slice_get, slice_get_within}
-use Rattle.td_value.specs.Values.{Tuple, IsTupleOf, tuple_names}
+use Rattle.td_value.specs.model.Values.{Tuple, IsTupleOf, tuple_names}
 use Rattle.td_body.specs.code.KeyParts.{places_from, values_cmp}
 use Rattle.td_body.proofs.FirstNames.{names_all}
 use Rattle.td_body.proofs.Parts.{as_many, filter-agreeing}

@@ -1,6 +1,6 @@
 use Rattle.std.proofs.Common.{◌≡◌, ◌∙◌, ◌+◌, ◌<◌, ◌++◌, ◌∷◌, [], ℕ, true, false, Global, List, Vec, if◌then◌else◌, ap, drop, get_or, length, subst, sym}
 use Rattle.std.proofs.lemmas.List.{append_assoc, at_drop_more}
-use Rattle.td_types.specs.Headings.{has_name}
+use Rattle.td_types.specs.model.Headings.{has_name}
 use Rattle.td_body.specs.code.KeyParts.{places_from}
 use Rattle.td_body.proofs.keys.places_of.Goals as goal
 use Rattle.td_body.proofs.keys.places_of.Goals.{then-is_among+in_ok-push, else-is_among}

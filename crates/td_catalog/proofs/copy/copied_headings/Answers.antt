@@ -2,7 +2,7 @@ use Rattle.std.proofs.Common.{◌∙◌, ℕ, List, refl, subst, sym}
 use Rattle.td_catalog.proofs.Copies.{IsCopied, copied_all, copied_next, copied_none}
 use Rattle.td_catalog.proofs.Named.{same_rows}
 use Rattle.td_catalog.proofs.copy.copied_headings.Goals as goal
-use Rattle.td_types.specs.Types.{Heading}
+use Rattle.td_types.specs.model.Types.{Heading}
 
 pub loop-name-init : goal.loop-name-init
 loop-name-init c = (

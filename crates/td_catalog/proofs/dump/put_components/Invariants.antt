@@ -1,6 +1,6 @@
 use Rattle.std.proofs.Common.{◌≡◌, ◌++◌, drop, false, string_bytes}
-use Rattle.td_types.specs.Texts.{attributes_text}
-use Rattle.td_types.specs.Types.{pack}
+use Rattle.td_types.specs.model.Texts.{attributes_text}
+use Rattle.td_types.specs.model.Types.{pack}
 use Rattle.td_types.specs.code.Views.{pairs_view}
 use Rattle.td_catalog.proofs.dump.put_components.Given as goal
 

@@ -1,8 +1,8 @@
 use Rattle.std.proofs.Common.{◌≡◌, ◌∙◌, ◌++◌, ℕ, List, ap, append_assoc}
 use Rattle.std.proofs.lemmas.Result.{on_ok_weaker}
 use Rattle.td_catalog.proofs.dump.put_constraint.Goals as goal
-use Rattle.td_tree.specs.Prints.{print}
-use Rattle.td_tree.specs.Trees.{Tree}
+use Rattle.td_tree.specs.model.Prints.{print}
+use Rattle.td_tree.specs.model.Trees.{Tree}
 
 -- a line of a word, a name and three more parts
 parts_put : (start word name a b c s t u v : List ℕ) → s ≡ start ++ word ++ name → t ≡ s ++ a → u ≡ t ++ b → v ≡ u ++ c

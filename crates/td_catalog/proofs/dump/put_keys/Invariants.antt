@@ -1,5 +1,5 @@
 use Rattle.std.proofs.Common.{◌≡◌, ◌++◌, drop, map, string_bytes}
-use Rattle.td_catalog.specs.Dumps.{keys_text}
+use Rattle.td_catalog.specs.model.Dumps.{keys_text}
 use Rattle.td_catalog.proofs.dump.put_keys.Given as goal
 
 abbrev pub invariant-loop-key : goal.invariant-loop-key

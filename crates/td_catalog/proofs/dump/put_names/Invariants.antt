@@ -1,5 +1,5 @@
 use Rattle.std.proofs.Common.{◌≡◌, ◌++◌, drop, false, string_bytes}
-use Rattle.td_catalog.specs.Dumps.{names_text}
+use Rattle.td_catalog.specs.model.Dumps.{names_text}
 use Rattle.td_catalog.proofs.dump.put_names.Given as goal
 
 abbrev pub invariant-loop-name : goal.invariant-loop-name

@@ -1,5 +1,5 @@
 use Rattle.std.proofs.Common.{◌≡◌, take}
-use Rattle.td_catalog.specs.Dumps.{ordered_names}
+use Rattle.td_catalog.specs.model.Dumps.{ordered_names}
 use Rattle.td_catalog.proofs.keys.ordered_key.Given as goal
 
 abbrev pub invariant-loop-place : goal.invariant-loop-place

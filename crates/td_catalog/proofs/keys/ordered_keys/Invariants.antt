@@ -1,5 +1,5 @@
 use Rattle.std.proofs.Common.{◌≡◌, map, take}
-use Rattle.td_catalog.specs.Dumps.{ordered_names}
+use Rattle.td_catalog.specs.model.Dumps.{ordered_names}
 use Rattle.td_catalog.proofs.keys.ordered_keys.Given as goal
 
 abbrev pub invariant-loop-key : goal.invariant-loop-key

@@ -1,11 +1,11 @@
 use Rattle.std.proofs.Common.{◌∙◌, ap}
-use Rattle.td_catalog.specs.Mentioned.{condition_mentions_type}
+use Rattle.td_catalog.specs.model.Mentioned.{condition_mentions_type}
 use Rattle.td_catalog.proofs.Searches.{condition_answered}
 use Rattle.td_catalog.proofs.mentioned.constraint_mentions.Goals as goal
-use Rattle.td_check.specs.Scopes.{entered_with}
+use Rattle.td_check.specs.model.Scopes.{entered_with}
 use Rattle.td_tree.specs.code.TreeViews.{tree_view}
-use Rattle.td_types.specs.Headings.{are_distinct, heading_from}
-use Rattle.td_types.specs.Types.{attribute_names}
+use Rattle.td_types.specs.model.Headings.{are_distinct, heading_from}
+use Rattle.td_types.specs.model.Types.{attribute_names}
 
 pub returns-in_default : goal.returns-in_default
 returns-in_default c typed = ap (condition_mentions_type c.args.name.now) c.in_default.ensures

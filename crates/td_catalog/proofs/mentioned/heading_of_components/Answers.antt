@@ -1,12 +1,12 @@
 use Rattle.std.proofs.Common.{◌≡◌, ◌∙◌, true, Result, Ok, Err, IfOk, ap, subst, sym}
 use Rattle.std.proofs.lemmas.List.{take_all}
 use Rattle.td_catalog.proofs.mentioned.heading_of_components.Goals as goal
-use Rattle.td_tree.specs.Outcomes.{Answers, Valued, value_if}
+use Rattle.td_tree.specs.model.Outcomes.{Answers, Valued, value_if}
 use Rattle.td_tree.specs.declared.fault.Fault.{Fault}
 use Rattle.td_tree.proofs.code_lemmas.Unrefused.{unrefused_if}
 use Rattle.td_tree.specs.declared.cause.Cause.TheVariants as causes
-use Rattle.td_types.specs.Headings.{are_distinct, heading_from, made_heading}
-use Rattle.td_types.specs.Types.{Heading, attribute_names}
+use Rattle.td_types.specs.model.Headings.{are_distinct, heading_from, made_heading}
+use Rattle.td_types.specs.model.Types.{Heading, attribute_names}
 use Rattle.td_types.specs.code.Views.{pairs_view}
 
 -- the heading that distinct names make

@@ -3,10 +3,10 @@ use Rattle.td_catalog.specs.code.Sought.{tree_mentions}
 use Rattle.td_catalog.proofs.Searches.{not_refused, relvars_answered, types_answered}
 use Rattle.td_catalog.proofs.mentioned.tree_mentions.Goals as goal
 use Rattle.td_check.specs.code.CheckViews.{names_view}
-use Rattle.td_check.specs.Mentions.{mentions_of}
-use Rattle.td_tree.specs.Outcomes.{Answers}
+use Rattle.td_check.specs.model.Mentions.{mentions_of}
+use Rattle.td_tree.specs.model.Outcomes.{Answers}
 use Rattle.td_tree.specs.code.TreeViews.{tree_view}
-use Rattle.td_types.specs.Headings.{has_name}
+use Rattle.td_types.specs.model.Headings.{has_name}
 
 pub returns-in-Type : goal.returns-in-Type
 returns-in-Type c t typed =

@@ -2,7 +2,7 @@ use Rattle.std.proofs.Common.{◌≡◌, ◌∙◌, ◌≤◌, ◌-◌, List, []
 use Rattle.td_check.specs.code.Alike.{AreLikeTuples}
 use Rattle.td_check.proofs.AlikeLaws.{all_are_enough, enough_of_alike}
 use Rattle.std.proofs.lemmas.List.{length-drop, take_all}
-use Rattle.td_tree.specs.Trees.{more, none, tuple}
+use Rattle.td_tree.specs.model.Trees.{more, none, tuple}
 use Rattle.td_tree.specs.code.TreeViews.{named_view, tree_view, trees_view}
 use Rattle.td_tree.proofs.code_lemmas.Rows.{tuple_is}
 use Rattle.td_check.proofs.alike.but_for_alike.Goals as goal

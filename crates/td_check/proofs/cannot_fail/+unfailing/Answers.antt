@@ -3,10 +3,10 @@ use Rattle.std.proofs.Math.Bool.{and_assoc}
 use Rattle.td_check.proofs.CannotFail.{elements_unfailing, extended_unfailing, when_false, when_true}
 use Rattle.td_check.proofs.cannot_fail.+unfailing.Goals as goal
 use Rattle.td_check.proofs.cannot_fail.+unfailing.Goals.{unfailing-else-items_cannot_fail, unfailing-then-items_cannot_fail}
-use Rattle.td_check.specs.CannotFail.{items_cannot_fail, parts_unfailing, unfailing}
+use Rattle.td_check.specs.laws.CannotFail.{items_cannot_fail, parts_unfailing, unfailing}
 use Rattle.td_tree.proofs.code_lemmas.Rows.{binding_is, select_is, summarize_by_is, summarize_per_is, tuple_is}
 use Rattle.td_tree.specs.code.TreeViews.{attributes_view, named_view, summaries_view, tree_view, trees_view}
-use Rattle.td_tree.specs.Trees as trees
+use Rattle.td_tree.specs.model.Trees as trees
 
 pub unfailing-returns-then-selector_cannot_fail : goal.unfailing-returns-then-selector_cannot_fail
 unfailing-returns-then-selector_cannot_fail t c =

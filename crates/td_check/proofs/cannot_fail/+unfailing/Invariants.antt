@@ -1,5 +1,5 @@
 use Rattle.std.proofs.Common.{◌≡◌, drop}
-use Rattle.td_check.specs.CannotFail.{all_unfailing, parts_unfailing}
+use Rattle.td_check.specs.laws.CannotFail.{all_unfailing, parts_unfailing}
 use Rattle.td_check.proofs.cannot_fail.+unfailing.Given as goal
 use Rattle.td_tree.specs.code.TreeViews.{named_view, trees_view}
 

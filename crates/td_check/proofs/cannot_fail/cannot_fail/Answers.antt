@@ -2,7 +2,7 @@ use Rattle.std.proofs.Common.{◌∙◌, ap}
 use Rattle.td_check.proofs.CannotFail.{answered, when_false, when_true}
 use Rattle.td_check.proofs.cannot_fail.cannot_fail.Goals as goal
 use Rattle.td_check.proofs.cannot_fail.cannot_fail.Goals.{else-unfailing, then-unfailing}
-use Rattle.td_check.specs.CannotFail.{relvars_cannot_fail, unfailing}
+use Rattle.td_check.specs.laws.CannotFail.{relvars_cannot_fail, unfailing}
 use Rattle.td_check.specs.code.CheckViews.{names_view}
 use Rattle.td_tree.specs.code.TreeViews.{tree_view}
 

@@ -6,11 +6,11 @@ use Rattle.std.specs.Prelude.{OnOk}
 use Rattle.td_check.specs.code.CheckViews.{added_view, bound_found, bounds_found, choice_of, headed_view, item_found, names_view, part_found, per_view, by_summary, per_summary, three_types_view, types_view, with_names}
 use Rattle.td_check.specs.declared.rules.lists.Item.{Item}
 use Rattle.td_check.specs.code.ItemViews.{items_view, named_item_view}
-use Rattle.td_check.specs.Mentions.{in_tuples, relvars_in, relvars_in_all, relvars_in_items, relvars_in_named, relvars_where_bound, types_in, types_in_all, types_in_items, types_in_named, types_named_in}
-use Rattle.td_check.specs.OperatorTypes as own
+use Rattle.td_check.specs.model.Mentions.{in_tuples, relvars_in, relvars_in_all, relvars_in_items, relvars_in_named, relvars_where_bound, types_in, types_in_all, types_in_items, types_in_named, types_named_in}
+use Rattle.td_check.specs.model.OperatorTypes as own
 use Rattle.td_check.specs.code.PlaceViews.{scope_at, within_all}
-use Rattle.td_check.specs.Scopes.{entered_with}
-use Rattle.td_check.specs.StaticTypes.{items_of, named_types, type_of, types_of, with_items}
+use Rattle.td_check.specs.model.Scopes.{entered_with}
+use Rattle.td_check.specs.model.StaticTypes.{items_of, named_types, type_of, types_of, with_items}
 use denote.Param.Weighed.{most}
 use Rattle.td_check.proofs.AlikeLaws.{answers_alike, most_take}
 use Rattle.td_tree.specs.declared.expression.Expr.{Expr}
@@ -24,14 +24,14 @@ use Rattle.td_check.proofs.CheckedTypes.{choice_typed, headed_typed, inside_exte
 use Rattle.td_check.proofs.Gives.{Gives, answered_then}
 use Rattle.td_check.proofs.expression.+check.Goals as goal
 use Rattle.td_check.proofs.expression.+check.Goals.{check_items_inside-in-Rel+in_ok-inside-in-Rel+in_ok-items-in-Rel, check_items_inside-in_default}
-use Rattle.td_tree.specs.Gatherings.{both_answers}
-use Rattle.td_tree.specs.Outcomes.{Answers, Valued, with_value}
+use Rattle.td_tree.specs.code.Gatherings.{both_answers}
+use Rattle.td_tree.specs.model.Outcomes.{Answers, Valued, with_value}
 use Rattle.td_tree.specs.code.TreeViews.{attributes_view, heading_tree_view, named_view, summaries_view, tree_view, trees_view}
-use Rattle.td_tree.specs.Trees as trees
+use Rattle.td_tree.specs.model.Trees as trees
 use Rattle.td_tree.proofs.code_lemmas.Rows.{binding_is, extend_is, extend_setting_is, headed_relation_is, relation_is, select_is, summarize_by_is, summarize_per_is, tuple_is}
 use Rattle.td_types.specs.code.Pairs.{pair_view}
-use Rattle.td_types.specs.TypeLists.{heading_meant}
-use Rattle.td_types.specs.Types.{Heading}
+use Rattle.td_types.specs.model.TypeLists.{heading_meant}
+use Rattle.td_types.specs.model.Types.{Heading}
 use Rattle.td_types.specs.declared.ty.Ty.{Ty}
 use Rattle.td_types.specs.code.Views.{pairs_view, type_view}
 use Rattle.td_types.proofs.Resolutions.{answers_still}

@@ -1,5 +1,5 @@
 use Rattle.std.proofs.Common.{◌≡◌, ◌++◌, take}
-use Rattle.td_check.specs.Mentions.{types_named_in}
+use Rattle.td_check.specs.model.Mentions.{types_named_in}
 use Rattle.td_tree.specs.code.TreeViews.{heading_tree_view}
 use Rattle.td_check.proofs.mentioned.+named.Given as goal
 

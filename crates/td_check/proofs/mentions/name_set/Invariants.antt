@@ -1,5 +1,5 @@
 use Rattle.std.proofs.Common.{◌≡◌, ◌++◌}
-use Rattle.td_check.specs.Mentions.{name_set}
+use Rattle.td_check.specs.model.Mentions.{name_set}
 use Rattle.td_check.proofs.mentions.name_set.Given as goal
 
 abbrev pub invariant-loop-name : goal.invariant-loop-name

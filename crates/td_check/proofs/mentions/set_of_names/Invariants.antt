@@ -1,5 +1,5 @@
 use Rattle.std.proofs.Common.{◌≡◌, ◌++◌}
-use Rattle.td_check.specs.Mentions.{name_set}
+use Rattle.td_check.specs.model.Mentions.{name_set}
 use Rattle.td_check.proofs.mentions.set_of_names.Given as goal
 
 abbrev pub invariant-loop-name : goal.invariant-loop-name

@@ -2,9 +2,9 @@ use Rattle.std.proofs.Common.{◌∙◌, ◌++◌, ap, sym}
 use Rattle.td_check.proofs.Gives.{weaker}
 use Rattle.td_check.proofs.WrittenNames.{names_more, names_of, names_of_all, names_of_extended, names_of_item, names_of_items, names_of_list, names_of_part, names_of_parts, names_behind, names_past}
 use Rattle.td_check.proofs.names.+written.Goals as goal
-use Rattle.td_check.specs.WrittenNames.{names_in, names_in_named}
+use Rattle.td_check.specs.laws.WrittenNames.{names_in, names_in_named}
 use Rattle.td_tree.specs.code.TreeViews.{attributes_view, named_view, summaries_view, tree_view}
-use Rattle.td_tree.specs.Trees as trees
+use Rattle.td_tree.specs.model.Trees as trees
 use Rattle.td_tree.proofs.code_lemmas.Rows.{binding_is, summarize_by_is, summarize_per_is, tuple_is}
 
 pub add_all-loop-expr-preserved : goal.add_all-loop-expr-preserved

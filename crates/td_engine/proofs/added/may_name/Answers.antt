@@ -1,11 +1,11 @@
 use Rattle.std.proofs.Common.{◌∙◌, ap, sym}
 use Rattle.std.specs.List.{list_any}
 use Rattle.td_check.proofs.NameSets.{names_are_a_set}
-use Rattle.td_check.specs.Mentions.{name_set}
-use Rattle.td_check.specs.WrittenNames.{names_in}
+use Rattle.td_check.specs.model.Mentions.{name_set}
+use Rattle.td_check.specs.laws.WrittenNames.{names_in}
 use Rattle.td_engine.proofs.code_lemmas.NamesAmong.{none_among}
 use Rattle.td_tree.specs.code.TreeViews.{tree_view}
-use Rattle.td_types.specs.Headings.{has_name}
+use Rattle.td_types.specs.model.Headings.{has_name}
 use Rattle.td_engine.proofs.added.may_name.Goals as goal
 
 pub returns-in-Ok : goal.returns-in-Ok

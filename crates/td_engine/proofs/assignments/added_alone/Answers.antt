@@ -1,6 +1,6 @@
 use Rattle.std.proofs.Common.{refl, subst}
 use Rattle.td_algebra.proofs.Relations.{IsRelation-view}
-use Rattle.td_types.specs.Types.{Heading, IsHeading, pack}
+use Rattle.td_types.specs.model.Types.{Heading, IsHeading, pack}
 use Rattle.td_engine.proofs.assignments.added_alone.Goals as goal
 
 pub returns : goal.returns

@@ -1,15 +1,15 @@
 use Rattle.std.proofs.Common.{◌≡◌, ◌∙◌, ap, subst, sym}
 use Rattle.std.specs.Prelude.{IfSome}
-use Rattle.td_body.specs.Bodies.{after_change}
-use Rattle.td_catalog.specs.Database.{base_relvar, with_body}
-use Rattle.td_catalog.specs.KeptDatabases.{CatalogView, advanced_view}
+use Rattle.td_body.specs.model.Bodies.{after_change}
+use Rattle.td_catalog.specs.model.Database.{base_relvar, with_body}
+use Rattle.td_catalog.specs.code.KeptDatabases.{CatalogView, advanced_view}
 use Rattle.td_engine.proofs.code_lemmas.Done.{always_ok}
 use Rattle.td_engine.proofs.code_lemmas.GivenChanges.{given_of}
-use Rattle.td_engine.proofs.code_lemmas.PutGifts.{checked_there}
+use Rattle.td_engine.proofs.code_lemmas.PutAssigned.{checked_there}
 use Rattle.td_engine.proofs.code_lemmas.StageLaws.{goes_on}
 use Rattle.td_engine.specs.code.Carried.{Passes}
-use Rattle.td_engine.specs.Changes.{changed_by, given_as}
-use Rattle.td_engine.specs.Checks.{base_check}
+use Rattle.td_engine.specs.code.Changes.{changed_by, given_as}
+use Rattle.td_engine.specs.model.Checks.{base_check}
 use Rattle.td_engine.proofs.assignments.put.Goals as goal
 
 pub change-requires-clause-headings : goal.change-requires-clause-headings

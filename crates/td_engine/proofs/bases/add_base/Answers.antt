@@ -1,11 +1,11 @@
 use Rattle.std.proofs.Common.{◌≡◌, ◌∙◌, ap, map, subst, sym}
 use Rattle.std.specs.Prelude.{OnOk}
-use Rattle.td_catalog.specs.Database.{base_relvar, knows_relvar, with_base}
-use Rattle.td_catalog.specs.TypedDatabases.{AreTyped}
+use Rattle.td_catalog.specs.model.Database.{base_relvar, knows_relvar, with_base}
+use Rattle.td_catalog.specs.model.TypedDatabases.{AreTyped}
 use Rattle.td_engine.proofs.code_lemmas.Done.{goes, made_there, new_there}
-use Rattle.td_types.specs.TypeLists.{AreKnown}
-use Rattle.td_types.specs.Types.{pack}
-use Rattle.td_value.specs.Values.{Relation}
+use Rattle.td_types.specs.model.TypeLists.{AreKnown}
+use Rattle.td_types.specs.model.Types.{pack}
+use Rattle.td_value.specs.model.Values.{Relation}
 use Rattle.td_engine.proofs.bases.add_base.Goals as goal
 
 pub add_base-requires-clause-heading : goal.add_base-requires-clause-heading

@@ -1,9 +1,9 @@
 use Rattle.std.proofs.Common.{◌≡◌, ◌∙◌, ap, false, map, subst, sym, true}
-use Rattle.td_catalog.specs.Database.{Database, base_relvar, with_base}
+use Rattle.td_catalog.specs.model.Database.{Database, base_relvar, with_base}
 use Rattle.td_engine.proofs.code_lemmas.NewChecks.{base_changed}
 use Rattle.td_engine.proofs.law_lemmas.Settled.{bases_hold, broken_base}
-use Rattle.td_engine.specs.Checks.{keys_hold}
-use Rattle.td_engine.specs.Machine.{Accepted, checked_effect, ok_text}
+use Rattle.td_engine.specs.model.Checks.{keys_hold}
+use Rattle.td_engine.specs.model.Machine.{Accepted, checked_effect, ok_text}
 use Rattle.td_engine.proofs.bases.add_checked.Goals as goal
 
 pub returns-in-Ok-false-clause-change : goal.returns-in-Ok-false-clause-change

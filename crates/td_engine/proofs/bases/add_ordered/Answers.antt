@@ -1,8 +1,8 @@
 use Rattle.std.proofs.Common.{◌≡◌, ◌∙◌, ap, map, subst, sym}
-use Rattle.td_catalog.specs.Dumps.{ordered_names}
-use Rattle.td_engine.specs.Legality.{AreBaseKeys}
+use Rattle.td_catalog.specs.model.Dumps.{ordered_names}
+use Rattle.td_engine.specs.model.Legality.{AreBaseKeys}
 use Rattle.td_engine.proofs.law_lemmas.OrderedKeys.{base_keys_stay}
-use Rattle.td_types.specs.Types.{Heading, IsHeading, pack}
+use Rattle.td_types.specs.model.Types.{Heading, IsHeading, pack}
 use Rattle.td_engine.proofs.bases.add_ordered.Goals as goal
 
 pub add_checked-requires-clause-keys : goal.add_checked-requires-clause-keys

@@ -1,10 +1,9 @@
 use Rattle.std.proofs.Common.{◌≡◌, ◌∙◌, [], IfOk, ap, subst, sym}
-use Rattle.td_body.specs.Bodies.{after_change}
+use Rattle.td_body.specs.model.Bodies.{after_change}
 use Rattle.td_body.proofs.Differences.{replaced}
-use Rattle.td_value.specs.Values.{IsRelation, Relation}
-use Rattle.td_types.specs.Types.{IsHeading, pack}
+use Rattle.td_value.specs.model.Values.{IsRelation, Relation, relation_view}
+use Rattle.td_types.specs.model.Types.{IsHeading, pack}
 use Rattle.td_algebra.proofs.Relations.{IsRelation-view}
-use Rattle.td_value.specs.code.Views.{relation_view}
 use Rattle.td_engine.proofs.bases.body_of.Goals as goal
 
 pub returns-clause-relation : goal.returns-clause-relation

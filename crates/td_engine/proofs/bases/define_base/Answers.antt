@@ -1,18 +1,18 @@
 use Rattle.std.proofs.Common.{Err, ap, map, option_map, subst, sym}
-use Rattle.td_catalog.specs.Database.{Database, base_relvar, with_base}
-use Rattle.td_catalog.specs.Dumps.{ordered_names}
-use Rattle.td_engine.specs.Legality.{AreBaseKeys}
+use Rattle.td_catalog.specs.model.Database.{Database, base_relvar, with_base}
+use Rattle.td_catalog.specs.model.Dumps.{ordered_names}
+use Rattle.td_engine.specs.model.Legality.{AreBaseKeys}
 use Rattle.td_engine.proofs.law_lemmas.Admitted.{failed_follows, refused_on}
 use Rattle.td_engine.proofs.law_lemmas.BaseAdmitted.{base_admitted}
 use Rattle.td_engine.proofs.code_lemmas.Plannables.{init_plannable}
 use Rattle.td_engine.specs.code.Carried.{Changes}
-use Rattle.td_engine.specs.Machine.{by_outcome, checked_effect, init_relation}
+use Rattle.td_engine.specs.model.Machine.{by_outcome, checked_effect, init_relation}
 use Rattle.td_engine.proofs.law_lemmas.WrittenStatements.{statement_written}
-use Rattle.td_tree.specs.Outcomes.{Answers, Outcome, Valued, with_value}
+use Rattle.td_tree.specs.model.Outcomes.{Answers, Outcome, Valued, with_value}
 use Rattle.td_tree.specs.code.TreeViews.{heading_tree_view, tree_view}
-use Rattle.td_tree.specs.Trees.{define_base}
-use Rattle.td_types.specs.TypeLists.{heading_meant}
-use Rattle.td_value.specs.Values.{Relation}
+use Rattle.td_tree.specs.model.Trees.{define_base}
+use Rattle.td_types.specs.model.TypeLists.{heading_meant}
+use Rattle.td_value.specs.model.Values.{Relation}
 use Rattle.td_engine.proofs.bases.define_base.Goals as goal
 
 pub new_relation-relation-requires : goal.new_relation-relation-requires

@@ -1,6 +1,6 @@
 use Rattle.std.proofs.Common.{subst, sym}
 use Rattle.std.specs.List.Sorted.{IsStrictlySortedBy}
-use Rattle.td_value.specs.Values.{IsAscendingBody}
+use Rattle.td_value.specs.model.Values.{IsAscendingBody}
 use Rattle.td_engine.proofs.change.empty_of.Goals as goal
 
 pub of_ascending-requires-clause-ascending : goal.of_ascending-requires-clause-ascending

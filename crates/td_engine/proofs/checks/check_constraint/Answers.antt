@@ -1,5 +1,5 @@
 use Rattle.std.proofs.Common.{subst, sym}
-use Rattle.td_catalog.specs.Database.{named_constraint}
+use Rattle.td_catalog.specs.model.Database.{named_constraint}
 use Rattle.td_engine.specs.code.ConstraintPlans.{AreKeptPlans}
 use Rattle.td_engine.proofs.checks.check_constraint.Goals as goal
 

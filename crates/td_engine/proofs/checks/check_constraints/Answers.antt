@@ -1,12 +1,12 @@
 use Rattle.std.proofs.Common.{sym}
-use Rattle.td_catalog.specs.Database.{named_constraint}
-use Rattle.td_engine.specs.Checks.{constraint_check}
-use Rattle.td_engine.specs.LeftOut.{PassesUnlessNamed}
+use Rattle.td_catalog.specs.model.Database.{named_constraint}
+use Rattle.td_engine.specs.model.Checks.{constraint_check}
+use Rattle.td_engine.specs.laws.LeftOut.{PassesUnlessNamed}
 use Rattle.td_engine.proofs.law_lemmas.EachOf.{of_place}
 use Rattle.td_engine.proofs.law_lemmas.InOrder.{passed_next, refusal_at}
 use Rattle.td_engine.proofs.code_lemmas.AddedTuples.{tested_at}
 use Rattle.td_engine.proofs.code_lemmas.Plannables.{constraint_plannable}
-use Rattle.td_eval.specs.DatabaseWorlds.{world_of}
+use Rattle.td_eval.specs.model.DatabaseWorlds.{world_of}
 use Rattle.td_engine.proofs.checks.check_constraints.Goals as goal
 
 pub check_constraint-requires-clause-plannable : goal.check_constraint-requires-clause-plannable

@@ -1,7 +1,7 @@
 use Rattle.td_engine.proofs.law_lemmas.InOrder.{IsLeft}
-use Rattle.td_engine.specs.Checks.{constraint_check}
+use Rattle.td_engine.specs.model.Checks.{constraint_check}
 use Rattle.td_engine.specs.code.ConstraintPlans.{AreKeptPlans}
-use Rattle.td_eval.specs.DatabaseWorlds.{world_of}
+use Rattle.td_eval.specs.model.DatabaseWorlds.{world_of}
 use Rattle.td_engine.proofs.checks.check_constraints.Given as goal
 
 abbrev pub invariant-loop-place : goal.invariant-loop-place

@@ -1,5 +1,5 @@
 use Rattle.std.proofs.Common.{sym}
-use Rattle.td_catalog.specs.Database.{named_constraint}
+use Rattle.td_catalog.specs.model.Database.{named_constraint}
 use Rattle.td_engine.proofs.code_lemmas.Plannables.{constraint_plannable}
 use Rattle.td_engine.proofs.checks.check_last_constraint.Goals as goal
 

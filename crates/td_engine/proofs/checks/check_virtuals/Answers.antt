@@ -1,11 +1,11 @@
 use Rattle.std.proofs.Common.{sym}
 use Rattle.td_catalog.specs.code.CatalogViews.{virtual_view}
-use Rattle.td_engine.specs.Checks.{virtual_check}
-use Rattle.td_engine.specs.LeftOut.{PassesUnlessReached}
+use Rattle.td_engine.specs.model.Checks.{virtual_check}
+use Rattle.td_engine.specs.laws.LeftOut.{PassesUnlessReached}
 use Rattle.td_engine.proofs.law_lemmas.EachOf.{of_place}
 use Rattle.td_engine.proofs.law_lemmas.InOrder.{passed_next, refusal_at}
 use Rattle.td_engine.proofs.code_lemmas.Plannables.{virtual_plannable}
-use Rattle.td_eval.specs.DatabaseWorlds.{world_of}
+use Rattle.td_eval.specs.model.DatabaseWorlds.{world_of}
 use Rattle.td_engine.proofs.checks.check_virtuals.Goals as goal
 
 pub check_virtual-requires-clause-plannable : goal.check_virtual-requires-clause-plannable

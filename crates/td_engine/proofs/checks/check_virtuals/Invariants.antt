@@ -1,6 +1,6 @@
 use Rattle.td_engine.proofs.law_lemmas.InOrder.{IsLeft}
-use Rattle.td_engine.specs.Checks.{virtual_check}
-use Rattle.td_eval.specs.DatabaseWorlds.{world_of}
+use Rattle.td_engine.specs.model.Checks.{virtual_check}
+use Rattle.td_eval.specs.model.DatabaseWorlds.{world_of}
 use Rattle.td_engine.proofs.checks.check_virtuals.Given as goal
 
 abbrev pub invariant-loop-place : goal.invariant-loop-place

@@ -2,7 +2,7 @@ use Rattle.std.proofs.Common.{◌≡◌, ◌<◌, arith, length, subst, sym}
 use Rattle.std.proofs.lemmas.List.{length-map}
 use Rattle.std.specs.Prelude.{IfOk, IfSome}
 use Rattle.std.specs.List.{slice_get}
-use Rattle.td_body.specs.Bodies.{key_holds}
+use Rattle.td_body.specs.model.Bodies.{key_holds}
 use Rattle.td_catalog.specs.code.CatalogViews.{entry_keys}
 use Rattle.td_engine.proofs.code_lemmas.KeysInTurn.{all_asked, key_broken, key_passed}
 use Rattle.td_engine.proofs.checks.entry_keys_hold.Goals as goal

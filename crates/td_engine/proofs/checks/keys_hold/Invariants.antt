@@ -1,5 +1,5 @@
 use Rattle.std.proofs.Common.{◌≡◌, drop, map}
-use Rattle.td_engine.specs.Checks.{keys_hold}
+use Rattle.td_engine.specs.model.Checks.{keys_hold}
 use Rattle.td_engine.proofs.checks.keys_hold.Given as goal
 
 abbrev pub invariant-loop-key : goal.invariant-loop-key

@@ -1,7 +1,7 @@
 use Rattle.std.proofs.Common.{map}
-use Rattle.td_engine.specs.Checks.{keys_hold}
+use Rattle.td_engine.specs.model.Checks.{keys_hold}
 use Rattle.td_eval.proofs.code_lemmas.OpValues.{relation_unpacked}
-use Rattle.td_tree.specs.Outcomes.{Valued}
+use Rattle.td_tree.specs.model.Outcomes.{Valued}
 use Rattle.td_engine.proofs.checks.keys_hold_in.Goals as goal
 
 pub returns-in_ok-keys_hold-in-Rel : goal.returns-in_ok-keys_hold-in-Rel

@@ -1,9 +1,9 @@
 use Rattle.std.proofs.Common.{[], ◌∙◌, ap, map, subst, sym}
 use Rattle.td_catalog.specs.code.CatalogViews.{virtual_view}
 use Rattle.td_engine.proofs.code_lemmas.VirtualTests.{keys_test, some_key, tested}
-use Rattle.td_eval.specs.DatabaseWorlds.{world_of}
-use Rattle.td_eval.specs.Worlds.{name_value}
-use Rattle.td_tree.specs.Outcomes.{Answers}
+use Rattle.td_eval.specs.model.DatabaseWorlds.{world_of}
+use Rattle.td_eval.specs.model.Worlds.{name_value}
+use Rattle.td_tree.specs.model.Outcomes.{Answers}
 use Rattle.td_engine.proofs.checks.test_virtual.Goals as goal
 
 pub returns : goal.returns

@@ -2,7 +2,7 @@ use Rattle.std.proofs.Common.{subst, sym}
 use Rattle.td_engine.proofs.code_lemmas.ConstraintPlanLaws.{place_more, plan_more}
 use Rattle.td_engine.specs.code.ConstraintPlans.{AreKeptPlans, IsPlanIn}
 use Rattle.td_plan.specs.code.PlanViews.{plan_view}
-use Rattle.td_plan.specs.PlansOf.{IsPlanIfTyped, scope_in}
+use Rattle.td_plan.specs.code.PlansOf.{IsPlanIfTyped, scope_in}
 use Rattle.td_tree.specs.code.TreeViews.{tree_view}
 use Rattle.td_engine.proofs.constraint_plans.keep_plan.Goals as goal
 

@@ -1,5 +1,5 @@
 use Rattle.std.proofs.Common.{refl}
-use Rattle.td_catalog.specs.Database.{named_constraint, with_constraint}
+use Rattle.td_catalog.specs.model.Database.{named_constraint, with_constraint}
 use Rattle.td_engine.proofs.law_lemmas.Admitted.{constraint_admitted}
 use Rattle.td_engine.proofs.code_lemmas.Done.{defined, goes, held_there}
 use Rattle.td_engine.proofs.law_lemmas.Settled.{bases_hold}

@@ -1,17 +1,17 @@
 use Rattle.std.proofs.Common.{◌≡◌, ◌∙◌, ap, option_map, subst, sym}
 use Rattle.std.specs.Prelude.{not}
-use Rattle.td_catalog.specs.Database.{with_declared}
-use Rattle.td_catalog.specs.TypedDatabases.{IsConstrained}
-use Rattle.td_check.specs.StatementTypes.{holds_or}
+use Rattle.td_catalog.specs.model.Database.{with_declared}
+use Rattle.td_catalog.specs.model.TypedDatabases.{IsConstrained}
+use Rattle.td_check.specs.model.StatementTypes.{holds_or}
 use Rattle.td_engine.proofs.law_lemmas.Admitted.{type_admitted}
 use Rattle.td_engine.proofs.code_lemmas.Done.{defined, goes, held_there}
 use Rattle.td_engine.proofs.law_lemmas.Settled.{bases_hold}
 use Rattle.td_engine.proofs.law_lemmas.WrittenStatements.{statement_written}
-use Rattle.td_tree.specs.Outcomes.{Answers, Valued, with_value}
+use Rattle.td_tree.specs.model.Outcomes.{Answers, Valued, with_value}
 use Rattle.td_tree.specs.code.TreeViews.{heading_tree_view, tree_view}
-use Rattle.td_tree.specs.Trees.{define_type}
+use Rattle.td_tree.specs.model.Trees.{define_type}
 use Rattle.td_tree.specs.declared.cause.Cause.TheVariants as causes
-use Rattle.td_types.specs.TypeLists.{attributes_meant, declared_type, is_declared}
+use Rattle.td_types.specs.model.TypeLists.{attributes_meant, declared_type, is_declared}
 use Rattle.td_types.specs.code.Views.{pairs_view}
 use Rattle.td_engine.proofs.definitions.add_type.Goals as goal
 

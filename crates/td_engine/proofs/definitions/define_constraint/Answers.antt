@@ -1,4 +1,4 @@
-use Rattle.td_catalog.specs.Database.{named_constraint, with_constraint}
+use Rattle.td_catalog.specs.model.Database.{named_constraint, with_constraint}
 use Rattle.td_engine.proofs.code_lemmas.NewChecks.{constraint_changed}
 use Rattle.td_tree.specs.code.TreeViews.{tree_view}
 use Rattle.td_types.proofs.OutcomeLaws.{valued_is}

@@ -1,5 +1,5 @@
-use Rattle.td_catalog.specs.Database.{without_constraint}
-use Rattle.td_catalog.specs.Mentioned.{constraint_droppable}
+use Rattle.td_catalog.specs.model.Database.{without_constraint}
+use Rattle.td_catalog.specs.model.Mentioned.{constraint_droppable}
 use Rattle.td_engine.proofs.code_lemmas.Done.{dropped, goes}
 use Rattle.td_engine.proofs.definitions.drop_constraint.Goals as goal
 

@@ -1,5 +1,5 @@
-use Rattle.td_catalog.specs.Database.{without_relvar}
-use Rattle.td_catalog.specs.Mentioned.{relvar_droppable}
+use Rattle.td_catalog.specs.model.Database.{without_relvar}
+use Rattle.td_catalog.specs.model.Mentioned.{relvar_droppable}
 use Rattle.td_engine.proofs.code_lemmas.Done.{dropped, goes}
 use Rattle.td_engine.proofs.definitions.drop_relvar.Goals as goal
 

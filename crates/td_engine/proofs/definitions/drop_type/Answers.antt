@@ -1,5 +1,5 @@
-use Rattle.td_catalog.specs.Database.{without_type}
-use Rattle.td_catalog.specs.Mentioned.{type_droppable}
+use Rattle.td_catalog.specs.model.Database.{without_type}
+use Rattle.td_catalog.specs.model.Mentioned.{type_droppable}
 use Rattle.td_engine.proofs.code_lemmas.Done.{dropped, goes}
 use Rattle.td_engine.proofs.definitions.drop_type.Goals as goal
 

@@ -1,7 +1,7 @@
 use Rattle.std.proofs.Common.{Ok, ◌∙◌, ap, subst}
-use Rattle.td_check.specs.OperatorTypes.{over_relation}
+use Rattle.td_check.specs.model.OperatorTypes.{over_relation}
 use Rattle.td_engine.proofs.law_lemmas.Admitted.{unpacked}
-use Rattle.td_tree.specs.Outcomes.{Answers, Valued, with_value}
+use Rattle.td_tree.specs.model.Outcomes.{Answers, Valued, with_value}
 use Rattle.td_types.specs.code.Views.{type_view}
 use Rattle.td_engine.proofs.definitions.over_relation.Goals as goal
 

@@ -2,8 +2,8 @@ use Rattle.std.proofs.Common.{Err, subst, sym}
 use Rattle.std.specs.Prelude.{⊤}
 use Rattle.td_engine.proofs.law_lemmas.Admitted.{failed_follows}
 use Rattle.td_engine.specs.code.Carried.{Changes}
-use Rattle.td_engine.specs.Machine.{by_outcome, unchecked_effect}
-use Rattle.td_tree.specs.Outcomes.{Answers}
+use Rattle.td_engine.specs.model.Machine.{by_outcome, unchecked_effect}
+use Rattle.td_tree.specs.model.Outcomes.{Answers}
 use Rattle.td_engine.proofs.definitions.unchecked_effect.Goals as goal
 
 pub returns-in-Err : goal.returns-in-Err

@@ -1,5 +1,5 @@
 use Rattle.std.proofs.Common.{◌∙◌, sym}
-use Rattle.td_types.specs.TypeOrder.{heading_eq-Decides}
+use Rattle.td_types.specs.code.TypeOrder.{heading_eq-Decides}
 use Rattle.td_engine.proofs.evaluation.of_heading.Goals as goal
 
 pub returns-then-eq-clause-heading : goal.returns-then-eq-clause-heading

@@ -1,4 +1,4 @@
-use Rattle.td_engine.specs.Assignments.{of_heading}
+use Rattle.td_engine.specs.model.Assignments.{of_heading}
 use Rattle.td_eval.proofs.code_lemmas.OpValues.{relation_unpacked}
 use Rattle.td_engine.proofs.evaluation.relation_in.Goals as goal
 

@@ -1,5 +1,5 @@
 use Rattle.td_engine.proofs.code_lemmas.Environments.{valued_there}
-use Rattle.td_eval.specs.DatabaseWorlds.{world_of}
+use Rattle.td_eval.specs.model.DatabaseWorlds.{world_of}
 use Rattle.td_tree.specs.code.TreeViews.{tree_view}
 use Rattle.td_engine.proofs.evaluation.value.Goals as goal
 

@@ -2,7 +2,7 @@ use Rattle.std.proofs.Common.{◌∙◌, ◌+◌, ◌≤◌, ap, drop, subst, sy
 use Rattle.std.proofs.lemmas.List.{drop_all}
 use Rattle.td_catalog.specs.code.CatalogViews.{virtual_view}
 use Rattle.td_engine.proofs.law_lemmas.InOrder.{drop_next, none_left}
-use Rattle.td_eval.specs.ReachedRelvars.{reached_from}
+use Rattle.td_eval.specs.laws.ReachedRelvars.{reached_from}
 use Rattle.td_engine.proofs.reached.reached_from.Goals as goal
 
 pub returns-in_default : goal.returns-in_default

@@ -1,5 +1,5 @@
 use Rattle.std.proofs.Common.{◌≡◌, drop}
-use Rattle.td_eval.specs.ReachedRelvars.{reached_from}
+use Rattle.td_eval.specs.laws.ReachedRelvars.{reached_from}
 use Rattle.td_engine.proofs.reached.reached_from.Given as goal
 
 abbrev pub invariant-loop-place : goal.invariant-loop-place

@@ -1,8 +1,8 @@
 use Rattle.std.proofs.Common.{◌≡◌, ◌+◌, ◌≤◌, false, length}
 use Rattle.td_engine.proofs.run.run_held.Given as goal
-use Rattle.td_engine.specs.Legality.{IsLegalState}
-use Rattle.td_engine.specs.Scripts.{script_limit}
-use Rattle.td_engine.specs.Standing.{standing}
+use Rattle.td_engine.specs.model.Legality.{IsLegalState}
+use Rattle.td_engine.specs.model.Scripts.{script_limit}
+use Rattle.td_engine.specs.model.Standing.{standing}
 use Rattle.td_engine.specs.code.Turns.{Advanced, place_at}
 
 -- statements were run up to here

@@ -3,10 +3,10 @@ use Rattle.td_engine.proofs.code_lemmas.Advances.{none_at_first}
 use Rattle.td_engine.proofs.code_lemmas.Endings.{Streamed, at_limit, at_memory, at_piece, at_read, at_refusal, at_the_end, at_write, fed_end, piece_headline, some_of, streamed_fed, streamed_first, streamed_on, write_both}
 use Rattle.td_engine.proofs.code_lemmas.Turning.{limit_map, memory_map, read_map}
 use Rattle.td_engine.proofs.run.run_within.Goals as goal
-use Rattle.td_engine.specs.Standing.{Standing, standing}
-use Rattle.td_engine.specs.code.Turns.{Place, place_at}
+use Rattle.td_engine.specs.model.Standing.{Standing, standing}
+use Rattle.td_engine.specs.code.Turns.{RunPlace, place_at}
 use Rattle.td_engine.specs.declared.run.Report.{Report}
-use Rattle.td_tree.specs.Statements.{Held, first_statement}
+use Rattle.td_tree.specs.model.Statements.{Held, first_statement}
 
 pub pieces-init : goal.pieces-init
 pieces-init g c =
@@ -49,8 +49,8 @@ returns-in-Err-clause-too_long g c =
 
 pub returns-in-Err-run_held-clause-memory : goal.returns-in-Err-run_held-clause-memory
 returns-in-Err-run_held-clause-memory g c =
-    let old : Place = place_at c.pieces.cutter (standing c.pieces.engine (g.W.Sink.taken c.pieces.writer)) c.pieces.report in
-    let new : Place = place_at c.read_piece.new.cutter (standing c.pieces.engine (g.W.Sink.taken c.pieces.writer)) c.pieces.report in
+    let old : RunPlace = place_at c.pieces.cutter (standing c.pieces.engine (g.W.Sink.taken c.pieces.writer)) c.pieces.report in
+    let new : RunPlace = place_at c.read_piece.new.cutter (standing c.pieces.engine (g.W.Sink.taken c.pieces.writer)) c.pieces.report in
     let s = streamed_fed c.args.limit c.pieces.room c.args.stop _ _ _ _ old new c.in-Ok.count (c.pieces.room - c.in-Ok.count) c.pieces.invariant.0 c.pieces.invariant.1
     c.in-Ok.ensures.fed c.in-Ok.ensures.fits refl refl refl in
     memory_map _ _
@@ -59,8 +59,8 @@ returns-in-Err-run_held-clause-memory g c =
 
 pub returns-in-Err-run_held-clause-write : goal.returns-in-Err-run_held-clause-write
 returns-in-Err-run_held-clause-write g c =
-    let old : Place = place_at c.pieces.cutter (standing c.pieces.engine (g.W.Sink.taken c.pieces.writer)) c.pieces.report in
-    let new : Place = place_at c.read_piece.new.cutter (standing c.pieces.engine (g.W.Sink.taken c.pieces.writer)) c.pieces.report in
+    let old : RunPlace = place_at c.pieces.cutter (standing c.pieces.engine (g.W.Sink.taken c.pieces.writer)) c.pieces.report in
+    let new : RunPlace = place_at c.read_piece.new.cutter (standing c.pieces.engine (g.W.Sink.taken c.pieces.writer)) c.pieces.report in
     let s = streamed_fed c.args.limit c.pieces.room c.args.stop _ _ _ _ old new c.in-Ok.count (c.pieces.room - c.in-Ok.count) c.pieces.invariant.0 c.pieces.invariant.1
     c.in-Ok.ensures.fed c.in-Ok.ensures.fits refl refl refl in
     write_both _ _ _
@@ -69,9 +69,9 @@ returns-in-Err-run_held-clause-write g c =
 
 pub returns-then-count-eq0-clause-answers : goal.returns-then-count-eq0-clause-answers
 returns-then-count-eq0-clause-answers g c =
-    let old : Place = place_at c.pieces.cutter (standing c.pieces.engine (g.W.Sink.taken c.pieces.writer)) c.pieces.report in
-    let new : Place = place_at c.read_piece.new.cutter (standing c.pieces.engine (g.W.Sink.taken c.pieces.writer)) c.pieces.report in
-    let last : Place = place_at c.run_held.new.cutter (standing c.run_held.new.engine (g.W.Sink.taken c.run_held.new.writer)) c.run_held.new.report in
+    let old : RunPlace = place_at c.pieces.cutter (standing c.pieces.engine (g.W.Sink.taken c.pieces.writer)) c.pieces.report in
+    let new : RunPlace = place_at c.read_piece.new.cutter (standing c.pieces.engine (g.W.Sink.taken c.pieces.writer)) c.pieces.report in
+    let last : RunPlace = place_at c.run_held.new.cutter (standing c.run_held.new.engine (g.W.Sink.taken c.run_held.new.writer)) c.run_held.new.report in
     let s = streamed_fed c.args.limit c.pieces.room c.args.stop _ _ _ _ old new c.in-Ok.count (c.pieces.room - c.in-Ok.count) c.pieces.invariant.0 c.pieces.invariant.1
     c.in-Ok.ensures.fed c.in-Ok.ensures.fits refl refl refl in
     let end = c.in-Ok.ensures.fed.none c.if-count-eq0.true in
@@ -81,9 +81,9 @@ returns-then-count-eq0-clause-answers g c =
 
 pub pieces-preserved : goal.pieces-preserved
 pieces-preserved g c =
-    let old : Place = place_at c.pieces.cutter (standing c.pieces.engine (g.W.Sink.taken c.pieces.writer)) c.pieces.report in
-    let new : Place = place_at c.read_piece.new.cutter (standing c.pieces.engine (g.W.Sink.taken c.pieces.writer)) c.pieces.report in
-    let last : Place = place_at c.run_held.new.cutter (standing c.run_held.new.engine (g.W.Sink.taken c.run_held.new.writer)) c.run_held.new.report in
+    let old : RunPlace = place_at c.pieces.cutter (standing c.pieces.engine (g.W.Sink.taken c.pieces.writer)) c.pieces.report in
+    let new : RunPlace = place_at c.read_piece.new.cutter (standing c.pieces.engine (g.W.Sink.taken c.pieces.writer)) c.pieces.report in
+    let last : RunPlace = place_at c.run_held.new.cutter (standing c.run_held.new.engine (g.W.Sink.taken c.run_held.new.writer)) c.run_held.new.report in
     let s = streamed_fed c.args.limit c.pieces.room c.args.stop _ _ _ _ old new c.in-Ok.count (c.pieces.room - c.in-Ok.count) c.pieces.invariant.0 c.pieces.invariant.1
     c.in-Ok.ensures.fed c.in-Ok.ensures.fits refl refl refl in (
       streamed_on c.args.limit (c.pieces.room - c.in-Ok.count) c.args.stop _ _ _ new last s c.in-Ok-run_held.ensures.advanced,

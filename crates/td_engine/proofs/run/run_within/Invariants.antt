@@ -1,10 +1,10 @@
 use Rattle.std.proofs.Common.{◌≡◌, ◌&&◌, nat_lt, false, None}
 use Rattle.td_engine.proofs.code_lemmas.Endings.{Streamed}
 use Rattle.td_engine.proofs.run.run_within.Given as goal
-use Rattle.td_engine.specs.Legality.{IsLegalState}
-use Rattle.td_engine.specs.Standing.{standing}
+use Rattle.td_engine.specs.model.Legality.{IsLegalState}
+use Rattle.td_engine.specs.model.Standing.{standing}
 use Rattle.td_engine.specs.code.Turns.{place_at}
-use Rattle.td_tree.specs.Statements.{first_statement}
+use Rattle.td_tree.specs.model.Statements.{first_statement}
 
 -- what was given so far was run as far as its statements are whole
 abbrev pub invariant-pieces : goal.invariant-pieces

@@ -1,11 +1,11 @@
 use Rattle.std.proofs.Common.{ℕ, List, ap, map}
 use Rattle.std.specs.Global.{Vec}
 use Rattle.td_engine.proofs.law_lemmas.SettingNames.{settings_are}
-use Rattle.td_engine.specs.code.Gifts.{setting_attribute}
+use Rattle.td_engine.specs.code.AssignedRelations.{setting_attribute}
 use Rattle.td_eval.proofs.code_lemmas.WalkedLists.{walked}
 use Rattle.td_tree.proofs.code_lemmas.Gatherings.{collected_next}
 use Rattle.td_tree.specs.declared.expression.NamedExpr.{NamedExpr}
-use Rattle.td_tree.specs.Outcomes.{gathered}
+use Rattle.td_tree.specs.model.Outcomes.{gathered}
 use Rattle.td_types.specs.declared.ty.Ty.{Ty}
 use Rattle.td_types.specs.code.Pairs.{pair_view}
 use Rattle.td_engine.proofs.settings.known_attributes.Goals as goal

@@ -1,7 +1,7 @@
 use Rattle.std.proofs.Common.{map, take}
-use Rattle.td_engine.specs.code.Gifts.{setting_attribute}
+use Rattle.td_engine.specs.code.AssignedRelations.{setting_attribute}
 use Rattle.td_tree.specs.declared.expression.NamedExpr.{NamedExpr}
-use Rattle.td_tree.specs.Gatherings.{IsGathered}
+use Rattle.td_tree.specs.code.Gatherings.{IsGathered}
 use Rattle.td_types.specs.code.Pairs.{pair_view}
 use Rattle.td_engine.proofs.settings.known_attributes.Given as goal
 

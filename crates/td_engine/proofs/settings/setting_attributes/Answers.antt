@@ -1,14 +1,14 @@
 use Rattle.std.proofs.Common.{◌≡◌, ◌∙◌, ap, map, sym, true, false}
 use Rattle.td_check.proofs.GatheredAnswers.{map_twice}
 use Rattle.td_engine.proofs.law_lemmas.SettingNames.{as_many_attributes, names_are}
-use Rattle.td_engine.specs.Assignments.{setting_names}
+use Rattle.td_engine.specs.model.Assignments.{setting_names}
 use Rattle.std.proofs.lemmas.List.{length-map}
 use Rattle.td_tree.specs.declared.cause.Cause.TheVariants as causes
-use Rattle.td_tree.specs.Outcomes.{named_cause, value_if, with_value}
+use Rattle.td_tree.specs.model.Outcomes.{named_cause, value_if, with_value}
 use Rattle.td_tree.specs.code.TreeViews.{named_view}
-use Rattle.td_types.specs.Headings.{are_distinct}
+use Rattle.td_types.specs.model.Headings.{are_distinct}
 use Rattle.td_types.specs.code.Pairs.{pair_view}
-use Rattle.td_types.specs.Types.{Attribute}
+use Rattle.td_types.specs.model.Types.{Attribute}
 use Rattle.td_engine.proofs.settings.setting_attributes.Goals as goal
 
 -- the test is of the names that are set

@@ -1,19 +1,19 @@
 use Rattle.std.proofs.Common.{◌≡◌, ◌∙◌, ℕ, Err, List, ap, subst, sym}
 use Rattle.std.proofs.lemmas.Result.{err_from_is_err_and}
 use Rattle.std.specs.Global.{Vec}
-use Rattle.td_algebra.specs.Operators.{difference, union}
+use Rattle.td_algebra.specs.model.Operators.{difference, union}
 use Rattle.td_engine.proofs.law_lemmas.Admitted.{refused_on}
 use Rattle.td_engine.proofs.code_lemmas.Done.{answers_then}
-use Rattle.td_engine.specs.Assignments.{of_heading, setting_attributes, setting_names}
-use Rattle.td_eval.specs.OperatorValues.{set_value}
-use Rattle.td_eval.specs.code.Sights.{tuples_in_hand, world_in}
-use Rattle.td_eval.specs.TreeValues.{values_in_tuples}
-use Rattle.td_tree.specs.Outcomes.{Answers, Valued, with_value}
+use Rattle.td_engine.specs.model.Assignments.{of_heading, setting_attributes, setting_names}
+use Rattle.td_eval.specs.model.OperatorValues.{set_value}
+use Rattle.td_eval.specs.code.LentWorlds.{tuples_in_hand, world_in}
+use Rattle.td_eval.specs.model.TreeValues.{values_in_tuples}
+use Rattle.td_tree.specs.model.Outcomes.{Answers, Valued, with_value}
 use Rattle.td_tree.specs.code.TreeViews.{named_view}
 use Rattle.td_types.specs.declared.ty.Ty.{Ty}
-use Rattle.td_types.specs.Types.{Attribute}
+use Rattle.td_types.specs.model.Types.{Attribute}
 use Rattle.td_types.specs.code.Views.{pairs_view}
-use Rattle.td_value.specs.Values.{Relation}
+use Rattle.td_value.specs.model.Values.{Relation}
 use Rattle.td_engine.proofs.settings.updated_tuples.Goals as goal
 
 pub returns-in_err-attributes-clause-answer : goal.returns-in_err-attributes-clause-answer

@@ -1,7 +1,7 @@
 use Rattle.std.proofs.Common.{subst, sym}
-use Rattle.td_catalog.specs.Database.{named_constraint, with_constraint}
+use Rattle.td_catalog.specs.model.Database.{named_constraint, with_constraint}
 use Rattle.td_engine.specs.code.Carried.{Changes}
-use Rattle.td_engine.specs.Machine.{checked_effect}
+use Rattle.td_engine.specs.model.Machine.{checked_effect}
 use Rattle.td_tree.specs.code.TreeViews.{tree_view}
 use Rattle.td_engine.proofs.statement.change.Goals as goal
 

@@ -1,8 +1,8 @@
 use Rattle.std.proofs.Common.{◌≡◌, ◌∙◌, true, false, ap, sym}
 use Rattle.std.specs.Prelude.{◌&&◌, not}
 use Rattle.std.specs.List.{list_all}
-use Rattle.td_types.specs.Headings.{are_distinct, has_attribute}
-use Rattle.td_types.specs.Types.{attribute_names}
+use Rattle.td_types.specs.model.Headings.{are_distinct, has_attribute}
+use Rattle.td_types.specs.model.Types.{attribute_names}
 use Rattle.td_types.specs.code.Views.{pairs_view}
 use Rattle.td_eval.proofs.code_lemmas.NewAttributes.{are_new, names_of_pairs, new_given, not_new, old_refused}
 use Rattle.td_eval.proofs.extension.ask_new.Goals as goal

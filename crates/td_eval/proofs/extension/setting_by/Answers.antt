@@ -2,17 +2,17 @@ use Rattle.std.proofs.Common.{◌≡◌, ◌∙◌, ℕ, Err, List, ap, subst, s
 use Rattle.std.proofs.lemmas.Result.{err_from_is_err_and}
 use Rattle.std.specs.Global.{Vec}
 use Rattle.std.specs.Prelude.{IfOk, ⊤}
-use Rattle.td_algebra.specs.Columns.{columns_view}
+use Rattle.td_algebra.specs.code.Columns.{columns_view}
 use Rattle.td_algebra.specs.declared.extension.Column.{Column}
-use Rattle.td_algebra.specs.Operators.{set_relation}
+use Rattle.td_algebra.specs.model.Operators.{set_relation}
 use Rattle.td_eval.proofs.code_lemmas.NewAttributes.{names_of_pairs}
 use Rattle.td_eval.proofs.code_lemmas.WalkedSettings.{set_columns, set_columns_fit, set_names, settings_given, settings_refused, settings_unset}
 use Rattle.td_eval.specs.code.NewColumns.{AreColumnsFor, named_columns}
-use Rattle.td_eval.specs.OperatorValues.{additions_of}
+use Rattle.td_eval.specs.model.OperatorValues.{additions_of}
 use Rattle.td_tree.specs.declared.cause.Cause.TheVariants as causes
-use Rattle.td_tree.specs.Outcomes.{Answers, Valued, gathered, value_if}
-use Rattle.td_types.specs.Headings.{are_distinct}
-use Rattle.td_types.specs.Types.{attribute_names}
+use Rattle.td_tree.specs.model.Outcomes.{Answers, Valued, gathered, value_if}
+use Rattle.td_types.specs.model.Headings.{are_distinct}
+use Rattle.td_types.specs.model.Types.{attribute_names}
 use Rattle.td_types.specs.code.Views.{pairs_view}
 use Rattle.td_eval.proofs.extension.setting_by.Goals as goal
 

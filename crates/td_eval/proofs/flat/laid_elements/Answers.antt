@@ -2,7 +2,7 @@ use Rattle.std.proofs.Common.{◌∙◌, map, subst, sym}
 use Rattle.td_eval.proofs.code_lemmas.FixedElements.{all_elements, one_more_element}
 use Rattle.td_eval.specs.code.FixedValues.{AreFixed}
 use Rattle.td_tree.specs.code.TreeViews.{trees_view}
-use Rattle.td_value.specs.Values.{tuple_value}
+use Rattle.td_value.specs.model.Values.{tuple_value}
 use Rattle.td_eval.proofs.flat.laid_elements.Goals as goal
 
 pub loop-element-preserved : goal.loop-element-preserved

@@ -5,7 +5,7 @@ use Rattle.std.proofs.lemmas.List.Sorted.{IsPermutation-map, IsPermutation-trans
 use Rattle.td_algebra.proofs.Taken.{names_numbered}
 use Rattle.td_algebra.specs.code.Layouts.{numbered_sources}
 use Rattle.td_types.proofs.DistinctNames.{distinct_permuted}
-use Rattle.td_types.specs.Headings.{are_distinct}
+use Rattle.td_types.specs.model.Headings.{are_distinct}
 use Rattle.td_eval.proofs.flat.layout_of.Goals as goal
 
 is_true : (b : Bool) → not b ≡ false → b ≡ true

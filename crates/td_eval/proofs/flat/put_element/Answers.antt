@@ -4,7 +4,7 @@ use Rattle.td_algebra.specs.code.Layouts.{AreInRange, numbered_sources, placed_t
 use Rattle.td_eval.proofs.code_lemmas.FixedElements.{element_put, row_in_range}
 use Rattle.td_eval.specs.code.FixedValues.{EntriesAreFixed}
 use Rattle.td_tree.proofs.code_lemmas.Rows.{tuple_is}
-use Rattle.td_tree.specs.Trees as trees
+use Rattle.td_tree.specs.model.Trees as trees
 use Rattle.td_tree.specs.code.TreeViews.{named_view, tree_view}
 use Rattle.td_eval.proofs.flat.put_element.Goals as goal
 

@@ -2,18 +2,18 @@ use Rattle.std.proofs.Common.{◌≡◌, ◌∙◌, ℕ, Err, List, ap, length, 
 use Rattle.std.proofs.lemmas.List.{length-map}
 use Rattle.std.proofs.lemmas.Result.{err_from_is_err_and}
 use Rattle.std.specs.Global.{Vec}
-use Rattle.td_algebra.specs.Columns.{columns_view}
+use Rattle.td_algebra.specs.code.Columns.{columns_view}
 use Rattle.td_algebra.specs.declared.extension.Column.{Column}
 use Rattle.td_eval.proofs.code_lemmas.WalkedLists.{as_many_parts}
 use Rattle.td_eval.proofs.code_lemmas.WalkedSettings.{set_columns, set_columns_fit, set_names, setting_given, setting_refused}
 use Rattle.td_eval.specs.code.NewColumns.{named_columns}
-use Rattle.td_eval.specs.OperatorValues.{additions_of}
-use Rattle.td_eval.specs.code.Sights.{seen_by, tuples_in_hand, world_in}
-use Rattle.td_eval.specs.TreeValues.{values_in_tuples}
-use Rattle.td_tree.specs.Outcomes.{Answers, Valued, gathered}
+use Rattle.td_eval.specs.model.OperatorValues.{additions_of}
+use Rattle.td_eval.specs.code.LentWorlds.{seen_by, tuples_in_hand, world_in}
+use Rattle.td_eval.specs.model.TreeValues.{values_in_tuples}
+use Rattle.td_tree.specs.model.Outcomes.{Answers, Valued, gathered}
 use Rattle.td_tree.specs.code.TreeViews.{named_view}
-use Rattle.td_types.specs.Headings.{are_distinct}
-use Rattle.td_types.specs.Types.{attribute_names}
+use Rattle.td_types.specs.model.Headings.{are_distinct}
+use Rattle.td_types.specs.model.Types.{attribute_names}
 use Rattle.td_types.specs.code.Views.{pairs_view}
 use Rattle.td_eval.proofs.in_tuples.set_in_tuples.Goals as goal
 
@@ -22,8 +22,8 @@ returns-in_err-columns g c =
     let attributes = pairs_view c.args.attributes.now in
     let parts = named_view c.args.parts.now in
     let fs = values_in_tuples (world_in c.args.env.now) (tuples_in_hand c.args.env.now) parts in
-    let seen : values_in_tuples (seen_by c.of_env-sight.result) (reverse c.deref.result.now) parts ≡ fs =
-    λ i. values_in_tuples (c.of_env-sight.ensures.exact i) (reverse ((c.deref.ensures.value ∙ c.in_ok-copies_of_lent.ensures) i)) parts in
+    let seen : values_in_tuples (seen_by c.of_env-lent.result) (reverse c.deref.result.now) parts ≡ fs =
+    λ i. values_in_tuples (c.of_env-lent.ensures.exact i) (reverse ((c.deref.ensures.value ∙ c.in_ok-copies_of_lent.ensures) i)) parts in
     let view = λ (cs : Vec (List ℕ × Column)). columns_view cs.items in
     let e = err_from_is_err_and c.from_residual-in_err-columns.result c.from_residual-in_err-columns.ensures.1 in
     rw (e.1, e.2)
@@ -35,8 +35,8 @@ set_all-requires-clause-distinct g c =
     let attributes = pairs_view c.args.attributes.now in
     let parts = named_view c.args.parts.now in
     let fs = values_in_tuples (world_in c.args.env.now) (tuples_in_hand c.args.env.now) parts in
-    let seen : values_in_tuples (seen_by c.of_env-sight.result) (reverse c.deref.result.now) parts ≡ fs =
-    λ i. values_in_tuples (c.of_env-sight.ensures.exact i) (reverse ((c.deref.ensures.value ∙ c.in_ok-copies_of_lent.ensures) i)) parts in
+    let seen : values_in_tuples (seen_by c.of_env-lent.result) (reverse c.deref.result.now) parts ≡ fs =
+    λ i. values_in_tuples (c.of_env-lent.ensures.exact i) (reverse ((c.deref.ensures.value ∙ c.in_ok-copies_of_lent.ensures) i)) parts in
     let cs = columns_view c.deref-2.result.now in
     let given : gathered (named_columns attributes fs c.args.rel.now.body) ≡ Valued cs =
     subst (λ gs. gathered (named_columns attributes gs c.args.rel.now.body) ≡ Valued cs) seen
@@ -50,8 +50,8 @@ set_all-requires-clause-fit g c =
     let attributes = pairs_view c.args.attributes.now in
     let parts = named_view c.args.parts.now in
     let fs = values_in_tuples (world_in c.args.env.now) (tuples_in_hand c.args.env.now) parts in
-    let seen : values_in_tuples (seen_by c.of_env-sight.result) (reverse c.deref.result.now) parts ≡ fs =
-    λ i. values_in_tuples (c.of_env-sight.ensures.exact i) (reverse ((c.deref.ensures.value ∙ c.in_ok-copies_of_lent.ensures) i)) parts in
+    let seen : values_in_tuples (seen_by c.of_env-lent.result) (reverse c.deref.result.now) parts ≡ fs =
+    λ i. values_in_tuples (c.of_env-lent.ensures.exact i) (reverse ((c.deref.ensures.value ∙ c.in_ok-copies_of_lent.ensures) i)) parts in
     let cs = columns_view c.deref-2.result.now in
     let given : gathered (named_columns attributes fs c.args.rel.now.body) ≡ Valued cs =
     subst (λ gs. gathered (named_columns attributes gs c.args.rel.now.body) ≡ Valued cs) seen
@@ -63,8 +63,8 @@ returns g c =
     let attributes = pairs_view c.args.attributes.now in
     let parts = named_view c.args.parts.now in
     let fs = values_in_tuples (world_in c.args.env.now) (tuples_in_hand c.args.env.now) parts in
-    let seen : values_in_tuples (seen_by c.of_env-sight.result) (reverse c.deref.result.now) parts ≡ fs =
-    λ i. values_in_tuples (c.of_env-sight.ensures.exact i) (reverse ((c.deref.ensures.value ∙ c.in_ok-copies_of_lent.ensures) i)) parts in
+    let seen : values_in_tuples (seen_by c.of_env-lent.result) (reverse c.deref.result.now) parts ≡ fs =
+    λ i. values_in_tuples (c.of_env-lent.ensures.exact i) (reverse ((c.deref.ensures.value ∙ c.in_ok-copies_of_lent.ensures) i)) parts in
     let cs = columns_view c.deref-2.result.now in
     let given : gathered (named_columns attributes fs c.args.rel.now.body) ≡ Valued cs =
     subst (λ gs. gathered (named_columns attributes gs c.args.rel.now.body) ≡ Valued cs) seen

@@ -1,5 +1,5 @@
 use Rattle.std.proofs.Common.{◌≡◌, take}
-use Rattle.td_group.specs.Aggregates.{greatest_value}
+use Rattle.td_group.specs.model.Aggregates.{greatest_value}
 use Rattle.td_group.proofs.aggregates.greatest.Given as goal
 
 abbrev pub invariant-loop-value : goal.invariant-loop-value

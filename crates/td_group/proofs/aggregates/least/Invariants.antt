@@ -1,5 +1,5 @@
 use Rattle.std.proofs.Common.{◌≡◌, take}
-use Rattle.td_group.specs.Aggregates.{least_value}
+use Rattle.td_group.specs.model.Aggregates.{least_value}
 use Rattle.td_group.proofs.aggregates.least.Given as goal
 
 abbrev pub invariant-loop-value : goal.invariant-loop-value

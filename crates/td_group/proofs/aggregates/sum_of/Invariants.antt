@@ -1,6 +1,6 @@
 use Rattle.std.proofs.Common.{◌≡◌, ◌*◌, ◌^◌, pos, take}
 use Rattle.std.specs.Prelude.{◌+ℤ◌, ◌≤ℤ◌}
-use Rattle.td_group.specs.Aggregates.{sum_of}
+use Rattle.td_group.specs.model.Aggregates.{sum_of}
 use Rattle.td_group.proofs.aggregates.sum_of.Given as goal
 
 abbrev pub invariant-loop-value : goal.invariant-loop-value

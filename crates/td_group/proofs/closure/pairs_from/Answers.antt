@@ -1,7 +1,7 @@
 use Rattle.std.proofs.Common.{◌∙◌, ◌++◌, ◌<◌, ◌≡◌, ◌≤◌, ap, arith, length, map, subst, sym, Bor, Global, Vec}
 use Rattle.std.proofs.lemmas.List.{length-map, take_all}
 use Rattle.td_algebra.proofs.Keys.{if_ok}
-use Rattle.td_value.specs.Values.{Tuple, Val}
+use Rattle.td_value.specs.model.Values.{Tuple, Val}
 use Rattle.td_value.specs.code.Blocks.{Making}
 use Rattle.td_group.specs.code.Successors.{ArePairsFrom, pair_of, successors_at}
 use Rattle.td_group.proofs.Tables.{at_reference, pairs_more}

@@ -1,6 +1,6 @@
 use Rattle.std.proofs.Common.{◌∙◌, ◌<◌, ap, arith, length, map, sym, Bor}
 use Rattle.std.proofs.lemmas.List.{length-map}
-use Rattle.td_value.specs.Values.{Val}
+use Rattle.td_value.specs.model.Values.{Val}
 use Rattle.td_group.specs.code.Successors.{with_value_added}
 use Rattle.td_group.proofs.Graphs.{all_more}
 use Rattle.td_group.proofs.Tables.{at_reference}

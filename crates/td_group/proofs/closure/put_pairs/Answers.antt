@@ -1,6 +1,6 @@
 use Rattle.std.proofs.Common.{◌≡◌, ◌∙◌, ◌++◌, ◌∷◌, [], ◌<◌, ap, append_assoc, arith, length, map, sym, take, Bor}
 use Rattle.std.proofs.lemmas.List.{length-map}
-use Rattle.td_value.specs.Values.{Val}
+use Rattle.td_value.specs.model.Values.{Val}
 use Rattle.td_value.specs.code.Blocks.{making, with_row}
 use Rattle.td_group.specs.code.Successors.{pair_of}
 use Rattle.td_group.proofs.Tables.{at_reference, map_more}

@@ -1,8 +1,8 @@
 use Rattle.std.proofs.Common.{◌∙◌, ◌∷◌, [], ◌≡◌, ap, map, subst, sym, Bor}
 use Rattle.std.specs.List.{Contains}
 use Rattle.std.proofs.lemmas.List.{map-append}
-use Rattle.td_value.specs.Values.{Val}
-use Rattle.td_value.specs.ValueOrder.{value_Decides}
+use Rattle.td_value.specs.model.Values.{Val}
+use Rattle.td_value.specs.code.ValueOrder.{value_Decides}
 use Rattle.td_group.specs.code.Successors.{ends_of}
 use Rattle.td_group.proofs.Tables.{contained_at, same_again, same_more, same_without}
 use Rattle.td_group.proofs.closure.put_start.Goals as goal

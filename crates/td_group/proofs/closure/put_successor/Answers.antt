@@ -1,8 +1,8 @@
 use Rattle.std.proofs.Common.{◌∙◌, ap, cond, Some}
 use Rattle.std.specs.HashMap.{get}
 use Rattle.std.specs.Ordering.{eq_by_cmp}
-use Rattle.td_value.specs.Values.{value_cmp}
-use Rattle.td_value.specs.ValueOrder.{order_total, value_Decides}
+use Rattle.td_value.specs.model.Values.{value_cmp}
+use Rattle.td_value.specs.code.ValueOrder.{order_total, value_Decides}
 use Rattle.td_group.proofs.Keyed.{grown_by_item}
 use Rattle.td_group.proofs.closure.put_successor.Goals as goal
 

@@ -1,6 +1,6 @@
 use Rattle.std.proofs.Common.{◌∙◌, ◌∷◌, [], ap, map, Bor}
 use Rattle.std.proofs.lemmas.List.{map-append}
-use Rattle.td_value.specs.Values.{Val}
+use Rattle.td_value.specs.model.Values.{Val}
 use Rattle.td_group.proofs.Tables.{seen_pushed}
 use Rattle.td_group.proofs.closure.put_unseen.Goals as goal
 

@@ -1,6 +1,6 @@
 use Rattle.std.proofs.Common.{arith, map, subst, take, Bor}
 use Rattle.std.proofs.lemmas.List.{take_all}
-use Rattle.td_value.specs.Values.{Val}
+use Rattle.td_value.specs.model.Values.{Val}
 use Rattle.td_group.specs.code.Successors.{HaveSameValues, ends_of, start_of, starts_in}
 use Rattle.td_group.proofs.Tables.{flat_more}
 use Rattle.td_group.proofs.closure.starts_of.Goals as goal

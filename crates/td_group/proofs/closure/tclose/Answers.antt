@@ -1,14 +1,13 @@
 use Rattle.std.proofs.Common.{◌≡◌, ◌∙◌, ◌∷◌, [], ap, length, map, subst, sym, Bor}
 use Rattle.std.specs.List.{All}
-use Rattle.td_types.specs.Types.{attribute_names}
-use Rattle.td_value.specs.Values.{IsTupleOf, Val}
+use Rattle.td_types.specs.model.Types.{attribute_names}
+use Rattle.td_value.specs.model.Values.{IsTupleOf, Val, relation_view}
 use Rattle.td_algebra.proofs.Joined.{sets_alike}
 use Rattle.td_algebra.proofs.Keys.{if_ok}
-use Rattle.td_group.specs.Closure.{chained_tuples, closure}
+use Rattle.td_group.specs.model.Closure.{chained_tuples, closure}
 use Rattle.td_group.specs.code.Successors.{ArePairsFrom, HaveSameValues, starts_in, successors, successors_at}
-use Rattle.td_value.specs.Sets.{set_of}
-use Rattle.td_value.specs.Values.{tuple_cmp}
-use Rattle.td_value.specs.code.Views.{relation_view}
+use Rattle.td_value.specs.model.Sets.{set_of}
+use Rattle.td_value.specs.model.Values.{tuple_cmp}
 use Rattle.td_group.proofs.Chains.{closable_two, closed_headed, closed_members}
 use Rattle.td_group.proofs.closure.tclose.Goals as goal
 

@@ -1,6 +1,6 @@
 use Rattle.std.proofs.Common.{◌∙◌, ◌<◌, ◌≤◌, ap, arith, length, map, Bor}
 use Rattle.std.proofs.lemmas.List.{length-map}
-use Rattle.td_value.specs.Values.{Val}
+use Rattle.td_value.specs.model.Values.{Val}
 use Rattle.td_group.specs.code.Successors.{all_added, successors_at}
 use Rattle.td_group.proofs.Graphs.{found_all, found_first, found_more}
 use Rattle.td_group.proofs.Tables.{all_successors, among_all, at_reference}

@@ -1,8 +1,8 @@
 use Rattle.std.proofs.Common.{◌∙◌, subst, sym}
 use Rattle.std.specs.Prelude.{IsTrue}
 use Rattle.td_tree.specs.declared.cause.Cause.TheVariants as causes
-use Rattle.td_types.specs.Headings.{common_part, has_attributes}
-use Rattle.td_types.specs.Types.{attribute_names}
+use Rattle.td_types.specs.model.Headings.{common_part, has_attributes}
+use Rattle.td_types.specs.model.Types.{attribute_names}
 use Rattle.td_algebra.proofs.Taken.{value_of_answer}
 use Rattle.td_algebra.proofs.OnNames.{common_there}
 use Rattle.td_group.proofs.groups.groups.Goals as goal

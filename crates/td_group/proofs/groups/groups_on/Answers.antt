@@ -1,13 +1,12 @@
 use Rattle.std.proofs.Common.{◌∙◌, ◌+◌, ◌++◌, ◌∷◌, [], ap, refl, subst, sym, take}
 use Rattle.std.specs.List.{All}
-use Rattle.td_types.specs.Types.{attribute_names}
-use Rattle.td_algebra.specs.Lookups.{partners_in}
-use Rattle.td_algebra.specs.Operators.{restriction}
+use Rattle.td_types.specs.model.Types.{attribute_names}
+use Rattle.td_algebra.specs.code.Lookups.{partners_in}
+use Rattle.td_algebra.specs.model.Operators.{restriction}
 use Rattle.td_algebra.proofs.OnNames.{found_on, places_within, row_headed, rows_within, same_places}
-use Rattle.td_value.specs.Agreement.{agree_on}
-use Rattle.td_value.specs.Values.{IsTupleOf}
-use Rattle.td_value.specs.code.Views.{relation_view}
-use Rattle.td_group.specs.Groups.{groups_on}
+use Rattle.td_value.specs.model.Agreement.{agree_on}
+use Rattle.td_value.specs.model.Values.{IsTupleOf, relation_view}
+use Rattle.td_group.specs.model.Groups.{groups_on}
 use Rattle.td_group.proofs.Tables.{map_more}
 use Rattle.td_group.proofs.groups.groups_on.Goals as goal
 

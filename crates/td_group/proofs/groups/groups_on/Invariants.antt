@@ -1,6 +1,6 @@
 use Rattle.std.proofs.Common.{◌≡◌, take}
-use Rattle.td_types.specs.Types.{attribute_names}
-use Rattle.td_group.specs.Groups.{groups_on}
+use Rattle.td_types.specs.model.Types.{attribute_names}
+use Rattle.td_group.specs.model.Groups.{groups_on}
 use Rattle.td_group.proofs.groups.groups_on.Given as goal
 
 abbrev pub invariant-loop-tuple : goal.invariant-loop-tuple

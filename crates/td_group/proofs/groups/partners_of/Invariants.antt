@@ -1,5 +1,5 @@
 use Rattle.std.proofs.Common.{◌≡◌, ◌++◌}
-use Rattle.td_algebra.specs.Lookups.{partners_in}
+use Rattle.td_algebra.specs.code.Lookups.{partners_in}
 use Rattle.td_group.proofs.groups.partners_of.Given as goal
 
 abbrev pub invariant-loop-row : goal.invariant-loop-row

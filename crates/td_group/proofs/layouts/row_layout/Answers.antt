@@ -1,7 +1,7 @@
 use Rattle.std.proofs.Common.{◌≡◌, ◌∙◌, ◌++◌, [], ap, map, subst, IfOk, List, ℕ, length}
 use Rattle.std.specs.List.Sorted.{IsPermutation}
-use Rattle.td_types.specs.Headings.{are_distinct}
-use Rattle.td_types.specs.Types.{Heading}
+use Rattle.td_types.specs.model.Headings.{are_distinct}
+use Rattle.td_types.specs.model.Types.{Heading}
 use Rattle.td_algebra.specs.code.Layouts.{Sources, numbered_sources, sources_outside, sources_with}
 use Rattle.td_algebra.proofs.Extensions.{names_with}
 use Rattle.td_group.proofs.layouts.row_layout.Goals as goal

@@ -1,6 +1,6 @@
 use Rattle.std.proofs.Common.{◌≡◌, ◌∙◌, ap, rules, sym, tests}
 use Rattle.std.specs.Prelude.{◌||◌, not}
-use Rattle.td_types.specs.Headings.{has_attribute}
+use Rattle.td_types.specs.model.Headings.{has_attribute}
 use Rattle.td_types.proofs.Attributes.{found}
 use Rattle.td_group.proofs.NestTests.{nests}
 use Rattle.td_group.proofs.nesting.can_nest.Goals as goal

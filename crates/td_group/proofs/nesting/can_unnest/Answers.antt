@@ -1,9 +1,9 @@
 use Rattle.std.proofs.Common.{◌≡◌, ◌∙◌, [], ap, rules, sym}
 use Rattle.std.specs.Prelude.{Some}
 use Rattle.td_types.specs.code.TypeCode.{unpack_pack}
-use Rattle.td_types.specs.Headings.{have_no_common, without_attribute}
+use Rattle.td_types.specs.model.Headings.{have_no_common, without_attribute}
 use Rattle.td_types.specs.code.Views.{type_view}
-use Rattle.td_group.specs.Nesting.{heading_inside, inner_heading}
+use Rattle.td_group.specs.model.Nesting.{heading_inside, inner_heading}
 use Rattle.td_group.proofs.NestTests.{apart_from_none}
 use Rattle.td_group.proofs.nesting.can_unnest.Goals as goal
 

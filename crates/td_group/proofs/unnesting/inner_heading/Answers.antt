@@ -3,7 +3,7 @@ use Rattle.std.specs.Prelude.{Some}
 use Rattle.td_types.specs.code.TypeCode.{unpack_pack}
 use Rattle.td_types.specs.code.Views.{type_view}
 use Rattle.td_algebra.proofs.Keys.{if_ok}
-use Rattle.td_group.specs.Nesting.{heading_inside, inner_heading}
+use Rattle.td_group.specs.model.Nesting.{heading_inside, inner_heading}
 use Rattle.td_group.proofs.unnesting.inner_heading.Goals as goal
 
 pub returns-in-Some-Tup : goal.returns-in-Some-Tup

@@ -6,8 +6,8 @@ use Rattle.std.proofs.lemmas.List.Sorted.{IsPermutation-refl}
 use Rattle.td_algebra.specs.code.Layouts.{AreInRange, placed_tuple}
 use Rattle.td_algebra.specs.code.Pairs.{IsPaired, pair_tuple}
 use Rattle.td_algebra.proofs.Lists.{contains_first}
-use Rattle.td_group.specs.Nesting.{tuples_inside}
-use Rattle.td_value.specs.Values.{Relation}
+use Rattle.td_group.specs.model.Nesting.{tuples_inside}
+use Rattle.td_value.specs.model.Values.{Relation}
 use Rattle.td_value.specs.code.Views.{node_view, values_of}
 use Rattle.td_value.specs.code.ValueCode.{unpack_pack_fields, unpack_pack_rows}
 use Rattle.td_group.proofs.unnesting.put_inside.Goals as goal

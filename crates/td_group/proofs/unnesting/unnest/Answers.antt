@@ -1,14 +1,14 @@
 use Rattle.std.proofs.Common.{◌≡◌, ◌∙◌, ◌++◌, ap, subst, sym, true}
 use Rattle.std.specs.List.{All, flat_map}
 use Rattle.td_tree.specs.declared.cause.Cause.TheVariants as causes
-use Rattle.td_types.specs.Headings.{agree, are_distinct, have_no_common, heading_union, outside, without_attribute}
-use Rattle.td_types.specs.Types.{attribute_names}
-use Rattle.td_value.specs.Values.{IsTupleOf, value_at}
+use Rattle.td_types.specs.model.Headings.{agree, are_distinct, have_no_common, heading_union, outside, without_attribute}
+use Rattle.td_types.specs.model.Types.{attribute_names}
+use Rattle.td_value.specs.model.Values.{IsTupleOf, value_at}
 use Rattle.td_algebra.specs.code.Pairs.{IsPaired, pair_tuple, pairs_with}
 use Rattle.td_algebra.proofs.Taken.{relation_is, value_of_answer}
 use Rattle.td_tree.proofs.code_lemmas.Unrefused.{unrefused_if}
 use Rattle.td_algebra.proofs.Joined.{apart_agree}
-use Rattle.td_group.specs.Nesting.{inner_heading, tuples_inside, unnested_tuples}
+use Rattle.td_group.specs.model.Nesting.{inner_heading, tuples_inside, unnested_tuples}
 use Rattle.td_group.proofs.Nested.{unnested_headed}
 use Rattle.td_group.proofs.RowLayouts.{unnested_distinct, unnested_made, unnested_paired}
 use Rattle.td_group.proofs.unnesting.unnest.Goals as goal

@@ -1,7 +1,7 @@
 use Rattle.std.proofs.Common.{◌≡◌, take}
 use Rattle.td_algebra.specs.code.Pairs.{pair_tuple, pairs_with}
-use Rattle.td_group.specs.Nesting.{tuples_inside}
-use Rattle.td_value.specs.Values.{value_at}
+use Rattle.td_group.specs.model.Nesting.{tuples_inside}
+use Rattle.td_value.specs.model.Values.{value_at}
 use Rattle.td_group.proofs.unnesting.unnested_rows.Given as goal
 
 abbrev pub invariant-loop-row : goal.invariant-loop-row

@@ -4,17 +4,17 @@ use Rattle.std.specs.List.{All}
 use Rattle.std.proofs.lemmas.List.{length-map}
 use Rattle.td_tree.proofs.code_lemmas.Unrefused.{unrefused_if}
 use Rattle.td_tree.specs.declared.cause.Cause.TheVariants as causes
-use Rattle.td_types.specs.Headings.{are_distinct, has_attribute, has_projection, outside, projection, with_attribute}
-use Rattle.td_types.specs.Types.{Heading, IsHeading, attribute_names, pack}
-use Rattle.td_types.specs.Types as types
+use Rattle.td_types.specs.model.Headings.{are_distinct, has_attribute, has_projection, outside, projection, with_attribute}
+use Rattle.td_types.specs.model.Types.{Heading, IsHeading, attribute_names, pack}
+use Rattle.td_types.specs.model.Types as types
 use Rattle.td_types.proofs.HeadingLaws.{IsHeading-filter}
-use Rattle.td_value.specs.Values.{IsTupleOf, Val, projected_tuple}
+use Rattle.td_value.specs.model.Values.{IsTupleOf, Val, projected_tuple}
 use Rattle.td_value.specs.code.Views.{values_of}
 use Rattle.td_algebra.specs.code.Layouts.{AreInRange}
 use Rattle.td_algebra.proofs.Entries.{heading_distinct}
 use Rattle.td_algebra.proofs.Members.{second_true}
 use Rattle.td_algebra.proofs.Taken.{relation_is, value_of_answer}
-use Rattle.td_group.specs.Nesting.{rest_heading, wrapped_tuple}
+use Rattle.td_group.specs.model.Nesting.{rest_heading, wrapped_tuple}
 use Rattle.td_group.proofs.Nested.{wrapped_distinct, wrapped_headed}
 use Rattle.td_group.proofs.RowLayouts.{parts_in_range, parts_made, wrapped_in_range, wrapped_made}
 use Rattle.td_group.proofs.wrapping.wrap.Goals as goal
@@ -25,8 +25,8 @@ row_layout-requires c =
     ap are_distinct (append-nil (attribute_names outside_rest))
     ∙ heading_distinct outside_rest (IsHeading-filter (λ a. not (has_attribute a.0 c.in_ok-rest.rest)) c.heading-heading.result.now c.reveal.ensures.heading)
 
-pub parts_of-requires : goal.parts_of-requires
-parts_of-requires c =
+pub wrapped_parts-requires : goal.wrapped_parts-requires
+wrapped_parts-requires c =
     let names = c.args.names.now in
     let r = c.args.rel.now in
     let h = c.heading-heading.result.now in

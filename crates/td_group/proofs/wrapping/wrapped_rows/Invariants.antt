@@ -1,6 +1,6 @@
 use Rattle.std.proofs.Common.{◌≡◌, ◌∷◌, ◌++◌, [], map, take}
 use Rattle.std.specs.List.Sorted.{IsPermutation}
-use Rattle.td_value.specs.Values.{Tuple, tuple_value}
+use Rattle.td_value.specs.model.Values.{Tuple, tuple_value}
 use Rattle.td_value.specs.code.Views.{values_of}
 use Rattle.td_algebra.specs.code.Layouts.{Sources, placed_tuple}
 use Rattle.td_group.proofs.wrapping.wrapped_rows.Given as goal

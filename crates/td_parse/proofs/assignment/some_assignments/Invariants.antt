@@ -1,6 +1,6 @@
 use Rattle.std.proofs.Common.{◌≡◌, ◌-◌, map}
-use Rattle.td_parse.specs.ReadingSteps.{list_by_commas, separated_from}
-use Rattle.td_parse.specs.ReadingStatements.{assignment}
+use Rattle.td_parse.specs.code.ReadingSteps.{list_by_commas, separated_from}
+use Rattle.td_parse.specs.code.ReadingStatements.{assignment}
 use Rattle.td_tree.specs.code.TreeViews.{assignment_view}
 use Rattle.td_parse.proofs.assignment.some_assignments.Given as goal
 

@@ -1,10 +1,10 @@
 use Rattle.std.proofs.Common.{rules, arith, suc, length, map}
 use Rattle.std.proofs.lemmas.Grind.{common_steps}
 use Rattle.std.proofs.lemmas.List.{map_push}
-use Rattle.td_parse.specs.ReadingSteps.{list_by_words, repeated_from}
+use Rattle.td_parse.specs.code.ReadingSteps.{list_by_words, repeated_from}
 use Rattle.std.proofs.Common.{List, ℕ, Vec, Global}
-use Rattle.td_parse.specs.ReadingSteps.{names}
-use Rattle.td_tree.specs.Lexemes.{keyword}
+use Rattle.td_parse.specs.code.ReadingSteps.{names}
+use Rattle.td_tree.specs.model.Lexemes.{keyword}
 use Rattle.td_tree.specs.declared.keyword.Keyword.TheVariants as k
 use Rattle.td_parse.proofs.Turns.{one_more}
 use Rattle.td_parse.proofs.definition.keys.Goals as goal

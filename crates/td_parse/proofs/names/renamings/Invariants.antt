@@ -1,6 +1,6 @@
 use Rattle.std.proofs.Common.{◌≡◌, ◌-◌}
 use Rattle.std.specs.Prelude.{map}
-use Rattle.td_parse.specs.ReadingSteps.{read_renaming, list_by_commas, separated_from}
+use Rattle.td_parse.specs.code.ReadingSteps.{read_renaming, list_by_commas, separated_from}
 use Rattle.td_tree.specs.code.TreeViews.{renaming_view}
 use Rattle.td_parse.proofs.names.renamings.Given as goal
 

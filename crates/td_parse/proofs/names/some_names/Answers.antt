@@ -1,6 +1,6 @@
 use Rattle.std.proofs.Common.{rules, arith, suc, length}
 use Rattle.std.proofs.lemmas.Grind.{common_steps}
-use Rattle.td_parse.specs.ReadingSteps.{read_name, list_by_commas, separated_from}
+use Rattle.td_parse.specs.code.ReadingSteps.{read_name, list_by_commas, separated_from}
 use Rattle.td_parse.proofs.Turns.{one_more}
 use Rattle.td_parse.proofs.names.some_names.Goals as goal
 

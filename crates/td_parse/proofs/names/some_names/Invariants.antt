@@ -1,5 +1,5 @@
 use Rattle.std.proofs.Common.{◌≡◌, ◌-◌}
-use Rattle.td_parse.specs.ReadingSteps.{read_name, list_by_commas, separated_from}
+use Rattle.td_parse.specs.code.ReadingSteps.{read_name, list_by_commas, separated_from}
 use Rattle.td_parse.proofs.names.some_names.Given as goal
 
 -- what is left goes on from the names so far

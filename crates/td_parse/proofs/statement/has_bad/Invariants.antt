@@ -1,5 +1,5 @@
 use Rattle.std.proofs.Common.{◌≡◌, drop}
-use Rattle.td_parse.specs.code.Parsing.{has_bad}
+use Rattle.td_parse.specs.model.Meanings.{has_bad}
 use Rattle.td_parse.proofs.statement.has_bad.Given as goal
 
 -- what is left decides

@@ -1,4 +1,8 @@
-use Rattle.std.proofs.Common.{sym, ◌∙◌}
+use Rattle.std.proofs.Common.{◌∙◌, subst, sym}
+use Rattle.td_tree.specs.code.TreeViews.{statement_view}
+use Rattle.td_tree.specs.model.Outcomes.{Answers}
+use Rattle.td_parse.specs.code.Parsing.{or_syntax}
+use Rattle.td_parse.specs.code.ReadingStatements.{read_statement}
 use Rattle.td_parse.proofs.Parsed.{parsed_from, scanned}
 use Rattle.td_parse.proofs.statement.parse_statement.Goals as goal
 
@@ -6,4 +10,6 @@ pub returns-then-has_bad : goal.returns-then-has_bad
 returns-then-has_bad c = scanned c.args.tokens.now (sym c.has_bad.ensures ∙ c.if-has_bad.true)
 
 pub returns : goal.returns
-returns c = parsed_from c.args.tokens.now c.whole.result (sym c.has_bad.ensures ∙ c.if-has_bad.false) c.whole.ensures
+returns c =
+    parsed_from c.args.tokens.now c.statement_of_all.result (sym c.has_bad.ensures ∙ c.if-has_bad.false)
+    (subst (λ ts. Answers statement_view c.statement_of_all.result (or_syntax (read_statement ts))) c.new-tokens.ensures c.statement_of_all.ensures)

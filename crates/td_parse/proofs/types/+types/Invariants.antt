@@ -1,6 +1,6 @@
 use Rattle.std.proofs.Common.{◌≡◌, ◌-◌, ◌+◌, ◌*◌}
-use Rattle.td_parse.specs.ReadingSteps.{list_by_commas, separated_from}
-use Rattle.td_parse.specs.ReadingTypes.{attribute, read_type}
+use Rattle.td_parse.specs.code.ReadingSteps.{list_by_commas, separated_from}
+use Rattle.td_parse.specs.code.ReadingTypes.{attribute, read_type}
 use Rattle.td_parse.specs.code.Views.{attribute_trees_view}
 use Rattle.td_parse.proofs.types.+types.Given as goal
 

@@ -2,7 +2,7 @@ use Rattle.std.proofs.Common.{◌≡◌, ◌+◌, ◌-◌, ◌*◌, true, drop}
 use Rattle.std.specs.Prelude.{fold}
 use Rattle.std.specs.Char.{is_ascii_digit}
 use Rattle.std.specs.List.{list_all}
-use Rattle.td_tree.specs.Numbers.{decimal_value}
+use Rattle.td_tree.specs.model.Numbers.{decimal_value}
 use Rattle.td_parse.proofs.word.number_of.Given as goal
 
 -- what is left goes on from the value so far, and is digits

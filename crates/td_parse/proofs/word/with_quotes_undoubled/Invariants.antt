@@ -1,5 +1,5 @@
 use Rattle.std.proofs.Common.{◌≡◌, ◌++◌, length}
-use Rattle.td_tree.specs.TextTokens.{with_quotes_undoubled}
+use Rattle.td_tree.specs.model.TextTokens.{with_quotes_undoubled}
 use Rattle.td_parse.proofs.word.with_quotes_undoubled.Given as goal
 
 abbrev pub invariant-loop-rest : goal.invariant-loop-rest

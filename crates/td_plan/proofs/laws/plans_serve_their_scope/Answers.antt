@@ -1,4 +1,4 @@
-use Rattle.td_eval.specs.TreeValues.{value_of}
+use Rattle.td_eval.specs.model.TreeValues.{value_of}
 use Rattle.td_plan.proofs.laws.plans_serve_their_scope.Goals as goal
 
 pub returns : goal.returns

@@ -1,9 +1,9 @@
 use Rattle.std.proofs.Common.{Result, subst}
-use Rattle.td_eval.specs.OperatorValues.{of_relation}
+use Rattle.td_eval.specs.model.OperatorValues.{of_relation}
 use Rattle.td_plan.proofs.MadePlans.{relation_given}
 use Rattle.td_tree.specs.declared.fault.Fault.{Fault}
-use Rattle.td_tree.specs.Outcomes.{Answers, with_value}
-use Rattle.td_value.specs.Values.{Val}
+use Rattle.td_tree.specs.model.Outcomes.{Answers, with_value}
+use Rattle.td_value.specs.model.Values.{Val}
 use Rattle.td_plan.proofs.values.relation_of.Goals as goal
 
 pub returns : goal.returns

@@ -1,5 +1,5 @@
 use Rattle.std.proofs.Common.{drop}
-use Rattle.td_tree.specs.WrittenTrees.{PartsGiveNames, PartsHaveTexts}
+use Rattle.td_tree.specs.model.WrittenTrees.{PartsGiveNames, PartsHaveTexts}
 use Rattle.td_tree.specs.code.TreeViews.{named_view}
 use Rattle.td_plan.proofs.values.reveal_parts.Given as goal
 

@@ -1,12 +1,12 @@
 use Rattle.std.proofs.Common.{◌∙◌, subst, sym}
 use Rattle.std.proofs.lemmas.List.{length-map}
-use Rattle.td_eval.specs.OperatorValues.{set_value}
-use Rattle.td_eval.specs.TreeValues.{values_in_tuples}
-use Rattle.td_eval.specs.code.Sights.{tuples_in_hand, world_in}
+use Rattle.td_eval.specs.model.OperatorValues.{set_value}
+use Rattle.td_eval.specs.model.TreeValues.{values_in_tuples}
+use Rattle.td_eval.specs.code.LentWorlds.{tuples_in_hand, world_in}
 use Rattle.td_plan.proofs.MadePlans.{as_many_set, extension_is_set}
-use Rattle.td_plan.specs.Plans.{extension_of}
-use Rattle.td_plan.specs.PlansOf.{scope_in}
-use Rattle.td_tree.specs.Outcomes.{Answers}
+use Rattle.td_plan.specs.code.Plans.{extension_of}
+use Rattle.td_plan.specs.code.PlansOf.{scope_in}
+use Rattle.td_tree.specs.model.Outcomes.{Answers}
 use Rattle.td_tree.specs.code.TreeViews.{named_view}
 use Rattle.td_types.specs.code.Pairs.{pair_view}
 use Rattle.td_types.specs.code.Views.{pairs_view}

@@ -1,7 +1,7 @@
-use Rattle.td_eval.specs.TreeValues.{value_of}
-use Rattle.td_plan.specs.PlansOf.{scope_in}
+use Rattle.td_eval.specs.model.TreeValues.{value_of}
+use Rattle.td_plan.specs.code.PlansOf.{scope_in}
 use Rattle.td_tree.specs.code.TreeViews.{tree_view}
-use Rattle.td_tree.specs.Trees.{name, restriction}
+use Rattle.td_tree.specs.model.Trees.{name, restriction}
 use Rattle.td_plan.proofs.values.tuples_where.Goals as goal
 
 pub returns : goal.returns

@@ -1,8 +1,8 @@
 use Rattle.std.proofs.Common.{subst}
 use Rattle.std.specs.Prelude.{IfSome}
-use Rattle.td_eval.specs.TreeValues.{value_of}
+use Rattle.td_eval.specs.model.TreeValues.{value_of}
 use Rattle.td_plan.specs.code.PlanViews.{plan_view}
-use Rattle.td_plan.specs.PlansOf.{IsPlanIfTyped, scope_in}
+use Rattle.td_plan.specs.code.PlansOf.{IsPlanIfTyped, scope_in}
 use Rattle.td_tree.specs.code.TreeViews.{tree_view}
 use Rattle.td_plan.proofs.values.value_by.Goals as goal
 

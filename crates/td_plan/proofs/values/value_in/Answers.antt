@@ -1,5 +1,5 @@
-use Rattle.td_eval.specs.TreeValues.{value_of}
-use Rattle.td_plan.specs.PlansOf.{scope_in}
+use Rattle.td_eval.specs.model.TreeValues.{value_of}
+use Rattle.td_plan.specs.code.PlansOf.{scope_in}
 use Rattle.td_tree.specs.code.TreeViews.{tree_view}
 use Rattle.td_plan.proofs.values.value_in.Goals as goal
 

@@ -1,6 +1,6 @@
 use Rattle.std.proofs.Common.{◌≡◌, ◌+◌, length}
-use Rattle.td_tree.specs.Statements.{tokens}
-use Rattle.td_scan.specs.code.Marks.{end_of_statement}
+use Rattle.td_tree.specs.model.Statements.{tokens}
+use Rattle.td_scan.specs.code.Progress.{end_of_statement}
 use Rattle.td_scan.proofs.cutter.end_with_rest.Given as goal
 
 abbrev pub invariant-loop-found : goal.invariant-loop-found

@@ -1,5 +1,5 @@
 use Rattle.std.proofs.Common.{◌≡◌, ◌+◌, ◌<◌, length}
-use Rattle.td_tree.specs.Symbols.{symbols}
+use Rattle.td_tree.specs.model.Symbols.{symbols}
 use Rattle.td_scan.specs.code.Fronts.{end_from, first_end}
 use Rattle.td_scan.proofs.piece.measure.Given as goal
 

@@ -1,5 +1,5 @@
 use Rattle.std.proofs.Common.{Some, rules}
-use Rattle.td_scan.specs.code.Marks.{IsBegun}
+use Rattle.td_scan.specs.code.Progress.{IsBegun}
 use Rattle.td_scan.proofs.RunLaws.{whole_first}
 use Rattle.td_scan.proofs.reading.first_known.Goals as goal
 

@@ -1,5 +1,5 @@
 use Rattle.std.proofs.Common.{◌≡◌, ◌+◌, ◌-◌, ◌≤◌, ◌++◌, ℕ, List, drop, length}
-use Rattle.td_tree.specs.Symbols.{symbols}
+use Rattle.td_tree.specs.model.Symbols.{symbols}
 use Rattle.td_scan.specs.code.Fronts.{end_from}
 use Rattle.td_scan.proofs.reading.go_on.Given as goal
 

@@ -1,7 +1,7 @@
 use Rattle.std.proofs.Common.{◌∙◌, ap, subst, sym}
 use Rattle.std.specs.List.{list_any}
 use Rattle.std.specs.Prelude.{◌==◌}
-use Rattle.td_scan.specs.code.Marks.{IsBegun}
+use Rattle.td_scan.specs.code.Progress.{IsBegun}
 use Rattle.td_scan.proofs.NoEnds.{no_end_behind, no_end_in}
 use Rattle.td_scan.proofs.reading.may_end.Goals as goal
 

@@ -1,5 +1,5 @@
 use Rattle.std.proofs.Common.{◌∙◌, ◌≡◌, ◌+◌, ◌++◌, ap, arith, drop}
-use Rattle.td_tree.specs.Statements.{tokens}
+use Rattle.td_tree.specs.model.Statements.{tokens}
 use Rattle.td_scan.proofs.BlankLaws.{blank_more}
 use Rattle.td_scan.proofs.run.blank_length.Goals as goal
 

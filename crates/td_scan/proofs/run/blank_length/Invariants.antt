@@ -1,5 +1,5 @@
 use Rattle.std.proofs.Common.{◌≡◌, ◌+◌, ◌++◌, ℕ, List, drop}
-use Rattle.td_tree.specs.Statements.{tokens}
+use Rattle.td_tree.specs.model.Statements.{tokens}
 use Rattle.td_scan.proofs.run.blank_length.Given as goal
 
 abbrev pub invariant-loop-index : goal.invariant-loop-index

@@ -1,6 +1,6 @@
 use Rattle.std.proofs.Common.{◌≡◌, ◌∙◌, None, Some, ap, subst, sym}
 use Rattle.std.specs.Prelude.{not}
-use Rattle.td_tree.specs.Pieces.{goes_on}
+use Rattle.td_tree.specs.model.Pieces.{goes_on}
 use Rattle.td_scan.proofs.RunLaws.{line_ends, number_ends, text_ends, word_ends}
 use Rattle.td_scan.proofs.run.ends.Goals as goal
 

@@ -1,6 +1,6 @@
 use Rattle.std.proofs.Common.{◌≡◌, Some, ap, subst, sym}
 use Rattle.td_tree.specs.declared.token.Kind.TheVariants as kinds
-use Rattle.td_tree.specs.Pieces.{kind_after}
+use Rattle.td_tree.specs.model.Pieces.{kind_after}
 use Rattle.td_scan.proofs.RunLaws.{one_is_name}
 use Rattle.td_scan.proofs.run.kind.Goals as goal
 

@@ -3,7 +3,7 @@ use Rattle.std.specs.List.{list_all}
 use Rattle.std.specs.Str.{chars}
 use lib.Utf8.{encode}
 use Rattle.std.proofs.lemmas.Str.{chars_past_char}
-use Rattle.td_tree.specs.Names.{is_word_more, is_word_start}
+use Rattle.td_tree.specs.model.Names.{is_word_more, is_word_start}
 use Rattle.td_tree.proofs.name.is_word.Goals as goal
 
 pub returns-then-is_word_start : goal.returns-then-is_word_start

@@ -1,5 +1,5 @@
 use Rattle.std.proofs.Common.{◌++◌, codes, refl}
-use Rattle.td_tree.specs.TextTokens.{with_quotes_doubled, text_in_quotes}
+use Rattle.td_tree.specs.model.TextTokens.{with_quotes_doubled, text_in_quotes}
 use Rattle.td_tree.proofs.code_lemmas.Fronts.{begun_more, begun_none, front_more, front_none, on_err}
 use Rattle.td_tree.proofs.quoted.put_quoted.Goals as goal
 

@@ -1,7 +1,7 @@
 use Rattle.std.proofs.Common.{map, take}
 use Rattle.std.specs.List.{AllByRecursion}
-use Rattle.td_tree.specs.Names.{IsName}
-use Rattle.td_tree.specs.Trees.{Renaming}
+use Rattle.td_tree.specs.model.Names.{IsName}
+use Rattle.td_tree.specs.model.Trees.{Renaming}
 use Rattle.td_tree.specs.code.TreeViews.{renaming_view}
 use Rattle.td_tree.proofs.written.reveal_renamings.Given as goal
 

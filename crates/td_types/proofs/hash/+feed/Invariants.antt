@@ -1,6 +1,6 @@
 use Rattle.std.proofs.Common.{◌≡◌, drop, fold}
-use Rattle.td_types.specs.Hashes.{fed_heading}
-use Rattle.td_types.specs.Types.{pack}
+use Rattle.td_types.specs.code.Hashes.{fed_heading}
+use Rattle.td_types.specs.model.Types.{pack}
 use Rattle.td_types.specs.code.Views.{heading_view}
 use Rattle.td_types.proofs.hash.+feed.Given as goal
 

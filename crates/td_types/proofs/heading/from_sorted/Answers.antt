@@ -2,7 +2,7 @@ use Rattle.std.proofs.Common.{◌≡◌, ◌∙◌, ◌∷◌, ◌++◌, [], ap,
 use Rattle.std.proofs.lemmas.List.{map-append, map-id}
 use Rattle.std.proofs.lemmas.Iterator.Adapters.{YieldsList-from_vec}
 use Rattle.std.proofs.lemmas.Iterator.Consumers.{YieldsList-end}
-use Rattle.td_types.specs.Types.{Attribute, IsHeading, pack}
+use Rattle.td_types.specs.model.Types.{Attribute, IsHeading, pack}
 use Rattle.td_types.specs.code.Views.{attribute_view, heading_view, pairs_view, type_view}
 use Rattle.td_types.specs.code.Pairs.{ArePairs}
 use Rattle.td_types.proofs.Made.{ArePairs-push, IsHeading-from}

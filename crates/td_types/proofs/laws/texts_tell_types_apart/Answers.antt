@@ -1,5 +1,5 @@
 use Rattle.std.proofs.Common.{[], ◌++◌, ap}
-use Rattle.td_types.specs.Texts.{type_text}
+use Rattle.td_types.specs.model.Texts.{type_text}
 use Rattle.td_types.proofs.TypeTexts.{type_cut}
 use Rattle.td_types.proofs.laws.texts_tell_types_apart.Goals as goal
 

@@ -1,6 +1,6 @@
 use Rattle.std.proofs.Common.{◌≡◌, drop}
-use Rattle.td_types.specs.NamedTypes.{any_names_user}
-use Rattle.td_types.specs.Types.{pack}
+use Rattle.td_types.specs.model.NamedTypes.{any_names_user}
+use Rattle.td_types.specs.model.Types.{pack}
 use Rattle.td_types.specs.code.Views.{heading_view}
 use Rattle.td_types.proofs.named.+named.Given as goal
 

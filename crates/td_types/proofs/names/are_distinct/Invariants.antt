@@ -1,5 +1,5 @@
 use Rattle.std.proofs.Common.{◌≡◌, length}
-use Rattle.td_types.specs.Headings.{are_distinct}
+use Rattle.td_types.specs.model.Headings.{are_distinct}
 use Rattle.td_types.proofs.names.are_distinct.Given as goal
 
 abbrev pub invariant-loop-rest : goal.invariant-loop-rest

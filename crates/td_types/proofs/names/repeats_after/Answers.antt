@@ -1,7 +1,7 @@
 use Rattle.std.proofs.Common.{◌≡◌, ◌∷◌, ◌+◌, ◌<◌, ◌∙◌, ℕ, List, length, get_or, map, sym, ap, drop, subst}
 use Rattle.std.specs.Prelude.{not}
 use Rattle.std.proofs.lemmas.List.{at_drop_more, at_drop_all}
-use Rattle.td_types.specs.Headings.{are_distinct}
+use Rattle.td_types.specs.model.Headings.{are_distinct}
 use Rattle.td_types.proofs.DistinctNames.{Sorted, tail_sorted, distinct_apart, distinct_same}
 use Rattle.td_types.proofs.names.repeats_after.Goals as goal
 

@@ -1,5 +1,5 @@
 use Rattle.std.proofs.Common.{◌≡◌, ◌∷◌, drop, map}
-use Rattle.td_types.specs.Headings.{are_distinct}
+use Rattle.td_types.specs.model.Headings.{are_distinct}
 use Rattle.td_types.proofs.DistinctNames.{Sorted}
 use Rattle.td_types.proofs.names.repeats_after.Given as goal
 

@@ -1,6 +1,6 @@
 use Rattle.std.proofs.Common.{◌≡◌, ℕ, zero, suc, ◌<◌, List, [], ◌∷◌, length, drop, refl, ◌∙◌, arith, Less}
 use Rattle.std.proofs.lemmas.List.{drop_all}
-use Rattle.td_types.specs.Types.{attrs_cmp, pack, no_attrs}
+use Rattle.td_types.specs.model.Types.{attrs_cmp, pack, no_attrs}
 use Rattle.td_types.specs.code.Views.{heading_view}
 use Rattle.td_types.specs.declared.heading.Attribute.{Attribute}
 use Rattle.td_types.proofs.order.+compare.Goals as goal

@@ -1,5 +1,5 @@
 use Rattle.std.proofs.Common.{◌≡◌, ◌≤◌, length, drop}
-use Rattle.td_types.specs.Types.{attrs_cmp, pack}
+use Rattle.td_types.specs.model.Types.{attrs_cmp, pack}
 use Rattle.td_types.specs.code.Views.{heading_view}
 use Rattle.td_types.proofs.order.+compare.Given as goal
 

@@ -1,7 +1,7 @@
 use Rattle.std.proofs.Common.{◌≡◌, Some, drop}
 use Rattle.td_types.specs.code.Tables.{kept_rank}
-use Rattle.td_types.specs.TypeLists.{greatest_rank, user_ranks}
-use Rattle.td_types.specs.Types.{pack}
+use Rattle.td_types.specs.model.TypeLists.{greatest_rank, user_ranks}
+use Rattle.td_types.specs.model.Types.{pack}
 use Rattle.td_types.specs.code.Views.{pairs_view}
 use Rattle.td_types.proofs.KeptRanks.{kept_greater}
 use Rattle.td_types.proofs.rank.components_rank.Given as goal

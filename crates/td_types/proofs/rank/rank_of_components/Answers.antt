@@ -1,4 +1,4 @@
-use Rattle.td_types.specs.Types.{pack, tuple}
+use Rattle.td_types.specs.model.Types.{pack, tuple}
 use Rattle.td_types.specs.code.Views.{pairs_view}
 use Rattle.td_types.proofs.rank.rank_of_components.Goals as goal
 

@@ -1,5 +1,5 @@
 use Rattle.std.proofs.Common.{◌≡◌, drop}
-use Rattle.td_types.specs.Headings.{new_name}
+use Rattle.td_types.specs.model.Headings.{new_name}
 use Rattle.td_types.proofs.rename.new_name.Given as goal
 
 abbrev pub invariant-loop-old : goal.invariant-loop-old

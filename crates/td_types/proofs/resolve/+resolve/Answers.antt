@@ -1,10 +1,10 @@
 use Rattle.std.proofs.Common.{◌∙◌, ap, sym}
 use Rattle.std.proofs.lemmas.Result.{err_from_is_err_and}
 use Rattle.td_tree.proofs.code_lemmas.Gatherings.{collected_next}
-use Rattle.td_tree.specs.Outcomes.{with_value}
+use Rattle.td_tree.specs.model.Outcomes.{with_value}
 use Rattle.td_tree.specs.code.TreeViews.{heading_tree_view}
-use Rattle.td_types.specs.TypeLists.{heading_meant}
-use Rattle.td_types.specs.Types.{Heading}
+use Rattle.td_types.specs.model.TypeLists.{heading_meant}
+use Rattle.td_types.specs.model.Types.{Heading}
 use Rattle.td_types.specs.code.Pairs.{pair_view}
 use Rattle.td_types.specs.code.Views.{pairs_view, type_view}
 use Rattle.td_types.proofs.Resolutions.{answers_still, outcome_of, relation_meant, relation_of, resolved_all, tuple_meant, tuple_of}

@@ -1,5 +1,5 @@
 use Rattle.std.proofs.Common.{map, take}
-use Rattle.td_tree.specs.Gatherings.{IsGathered}
+use Rattle.td_tree.specs.code.Gatherings.{IsGathered}
 use Rattle.td_types.specs.code.Views.{pairs_view}
 use Rattle.td_types.proofs.Resolutions.{outcome_of}
 use Rattle.td_types.proofs.resolve.+resolve.Given as goal

@@ -2,8 +2,8 @@ use Rattle.std.proofs.Common.{◌∙◌, ◌++◌, [], ap, codes, refl, string_b
 use Rattle.std.proofs.lemmas.List.{append-nil}
 use Rattle.td_tree.specs.code.Fronts.{PutsFront}
 use Rattle.td_tree.proofs.code_lemmas.Fronts.{begun_more, begun_none, front_more, front_none, on_err}
-use Rattle.td_types.specs.Texts.{comma_if, heading_text, type_text}
-use Rattle.td_types.specs.Types.{pack}
+use Rattle.td_types.specs.model.Texts.{comma_if, heading_text, type_text}
+use Rattle.td_types.specs.model.Types.{pack}
 use Rattle.td_types.specs.code.Views.{heading_view, type_view}
 use Rattle.td_types.proofs.TextFronts.{begun_inside, front_inside, last_unput, on_err_then, text_first}
 use Rattle.td_types.proofs.text.+put.Goals as goal

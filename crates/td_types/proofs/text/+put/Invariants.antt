@@ -1,8 +1,8 @@
 use Rattle.std.proofs.Common.{drop, false}
 use Rattle.std.specs.String.{string_bytes}
 use Rattle.td_tree.specs.code.Fronts.{IsBegun}
-use Rattle.td_types.specs.Texts.{attributes_text}
-use Rattle.td_types.specs.Types.{pack}
+use Rattle.td_types.specs.model.Texts.{attributes_text}
+use Rattle.td_types.specs.model.Types.{pack}
 use Rattle.td_types.specs.code.Views.{heading_view}
 use Rattle.td_types.proofs.text.+put.Given as goal
 

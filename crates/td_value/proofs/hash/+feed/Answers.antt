@@ -1,6 +1,6 @@
 use Rattle.std.proofs.Common.{◌∙◌, ap, sym, fold, arith}
-use Rattle.td_value.specs.Hashes.{fed_parts}
-use Rattle.td_value.specs.Values.{pack_parts}
+use Rattle.td_value.specs.code.Hashes.{fed_parts}
+use Rattle.td_value.specs.model.Values.{pack_parts}
 use Rattle.td_value.proofs.Falls.{values_fall}
 use Rattle.td_value.proofs.Own.{fed_by_own_values}
 use Rattle.td_value.proofs.hash.+feed.Goals as goal

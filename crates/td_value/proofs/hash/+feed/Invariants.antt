@@ -1,6 +1,6 @@
 use Rattle.std.proofs.Common.{◌≡◌, drop, fold}
-use Rattle.td_value.specs.Hashes.{fed_parts, fed_rows}
-use Rattle.td_value.specs.Values.{pack_rows, pack_parts}
+use Rattle.td_value.specs.code.Hashes.{fed_parts, fed_rows}
+use Rattle.td_value.specs.model.Values.{pack_rows, pack_parts}
 use Rattle.td_value.proofs.hash.+feed.Given as goal
 
 abbrev pub invariant-feed_parts-loop-v : goal.invariant-feed_parts-loop-v

@@ -1,4 +1,4 @@
-use Rattle.td_value.specs.ValueOrder.{relation_Decides, tuple_Decides, value_Decides}
+use Rattle.td_value.specs.code.ValueOrder.{relation_Decides, tuple_Decides, value_Decides}
 use Rattle.td_value.proofs.laws.equality_is_sameness.Goals as goal
 
 pub returns : goal.returns

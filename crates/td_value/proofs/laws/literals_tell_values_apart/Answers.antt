@@ -1,5 +1,5 @@
 use Rattle.std.proofs.Common.{ap, [], ◌++◌}
-use Rattle.td_value.specs.Literal.{literal}
+use Rattle.td_value.specs.model.Literal.{literal}
 use Rattle.td_value.proofs.Unread.{value_cut}
 use Rattle.td_value.proofs.laws.literals_tell_values_apart.Goals as goal
 

@@ -2,9 +2,9 @@ use Rattle.std.proofs.Common.{◌≡◌, ◌∙◌, ap, sym}
 use Rattle.std.specs.Ordering.{ordering_then}
 use Rattle.std.specs.declared.cmp.Ordering.TheVariants.{Equal}
 use Rattle.std.proofs.lemmas.Cmp.{tied_itself}
-use Rattle.td_types.specs.Types.{attrs_cmp, pack, tuple}
-use Rattle.td_types.specs.TypeOrder.{type_cmp_total}
-use Rattle.td_value.specs.Values.{pack_rows, rows_cmp}
+use Rattle.td_types.specs.model.Types.{attrs_cmp, pack, tuple}
+use Rattle.td_types.specs.code.TypeOrder.{type_cmp_total}
+use Rattle.td_value.specs.model.Values.{pack_rows, rows_cmp}
 use Rattle.td_value.proofs.Rows.{rows_order-lists}
 use Rattle.td_value.proofs.laws.relations_compare_by_rows.Goals as goal
 

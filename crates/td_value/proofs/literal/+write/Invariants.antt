@@ -1,6 +1,6 @@
 use Rattle.std.proofs.Common.{◌≡◌, ◌++◌, drop, false, string_bytes}
-use Rattle.td_value.specs.Literal.{parts_literal, fields_literal, rows_literal}
-use Rattle.td_value.specs.Values.{pack_fields, pack_rows, pack_parts}
+use Rattle.td_value.specs.model.Literal.{parts_literal, fields_literal, rows_literal}
+use Rattle.td_value.specs.model.Values.{pack_fields, pack_rows, pack_parts}
 use Rattle.td_value.specs.code.Views.{tuple_view}
 use Rattle.td_value.proofs.literal.+write.Given as goal
 

@@ -1,6 +1,6 @@
 use Rattle.std.proofs.Common.{◌∙◌, ◌<◌, subst, ℕ, arith, below_more, get_or}
 use Rattle.std.proofs.lemmas.List.{get_or_default}
-use Rattle.td_tree.specs.Names.{IsName}
+use Rattle.td_tree.specs.model.Names.{IsName}
 use Rattle.td_value.proofs.names.know_names.Goals as goal
 
 pub loop-name-preserved : goal.loop-name-preserved

@@ -1,6 +1,6 @@
 use Rattle.std.proofs.Common.{◌≡◌, ◌∙◌, ◌+◌, ◌-◌, ap, arith, drop, get_or, subst, sym}
 use Rattle.std.specs.Ordering.{is_lt}
-use Rattle.td_value.specs.Values.{IsAscendingBody}
+use Rattle.td_value.specs.model.Values.{IsAscendingBody}
 use Rattle.td_value.proofs.Ascending.{is_less, last_ascends, one_before}
 use Rattle.td_value.proofs.relation.ascend.Goals as goal
 

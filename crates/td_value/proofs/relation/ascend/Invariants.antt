@@ -1,5 +1,5 @@
 use Rattle.std.proofs.Common.{◌-◌, ◌≤◌, drop, length}
-use Rattle.td_value.specs.Values.{IsAscendingBody}
+use Rattle.td_value.specs.model.Values.{IsAscendingBody}
 use Rattle.td_value.proofs.relation.ascend.Given as goal
 
 abbrev pub decreases-loop-place : goal.decreases-loop-place

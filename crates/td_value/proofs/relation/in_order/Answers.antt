@@ -1,6 +1,6 @@
 use Rattle.std.proofs.Common.{refl, sym, subst}
-use Rattle.td_value.specs.Values.{HaveSameNames, IsAscendingBody, tuple_cmp}
-use Rattle.td_value.specs.ValueOrder.{tuple_order_total, tuple_order_same}
+use Rattle.td_value.specs.model.Values.{HaveSameNames, IsAscendingBody, tuple_cmp}
+use Rattle.td_value.specs.code.ValueOrder.{tuple_order_total, tuple_order_same}
 use Rattle.td_value.proofs.SetLaws.{is_set_of}
 use Rattle.td_value.proofs.relation.in_order.Goals as goal
 

@@ -2,8 +2,8 @@ use Rattle.std.proofs.Common.{rules, ◌∙◌, ap}
 use Rattle.std.specs.Ordering.{eq_by_cmp, is_lt}
 use Rattle.std.proofs.lemmas.List.Filters.{dedup_is}
 use Rattle.std.proofs.lemmas.List.Sorted.{answers_always, ranks_by}
-use Rattle.td_value.specs.Values.{tuple_cmp}
-use Rattle.td_value.specs.ValueOrder.{tuple_order_total, tuple_order_same}
+use Rattle.td_value.specs.model.Values.{tuple_cmp}
+use Rattle.td_value.specs.code.ValueOrder.{tuple_order_total, tuple_order_same}
 use Rattle.td_value.proofs.Rows.{HaveSameNames-permuted, by_values, by_values_total, sorted_from_values}
 use Rattle.td_value.proofs.SetLaws.{sorted_is_set_of}
 use Rattle.td_value.proofs.relation.in_order_by_values.Goals as goal

@@ -1,6 +1,6 @@
 use Rattle.std.proofs.Common.{◌≡◌, ◌∙◌, ◌++◌, ◌∷◌, ◌+◌, [], ap, sym, subst, take, append_assoc, append-nil, length, refl, List, ℕ}
 use Rattle.std.proofs.lemmas.List.{take_all, take_more, length-map}
-use Rattle.td_value.specs.Values.{Tuple, Val, tuple_names}
+use Rattle.td_value.specs.model.Values.{Tuple, Val, tuple_names}
 use Rattle.td_value.specs.code.Blocks.{Making, making, with_row}
 use Rattle.td_value.specs.code.Views.{tuple_view, values_of}
 use Rattle.td_value.proofs.Zips.{unzipped}

@@ -1,6 +1,6 @@
 use Rattle.std.proofs.Common.{◌∙◌, ap, length, sym}
 use Rattle.std.proofs.lemmas.List.{length-map}
-use Rattle.td_value.specs.Values.{Tuple, tuple_names}
+use Rattle.td_value.specs.model.Values.{Tuple, tuple_names}
 use Rattle.td_value.proofs.Zips.{unzipped, IsTuple-from}
 use Rattle.td_value.proofs.tuple.from_sorted.Goals as goal
 

@@ -1,7 +1,7 @@
 use Rattle.std.proofs.Common.{refl, subst}
 use Rattle.std.proofs.lemmas.List.{take_all, take_more}
 use Rattle.std.proofs.lemmas.List.Elements.{All-push}
-use Rattle.td_value.specs.Values.{IsTupleOf}
+use Rattle.td_value.specs.model.Values.{IsTupleOf}
 use Rattle.td_value.proofs.tuple.have_heading.Goals as goal
 
 pub loop-tuple-preserved : goal.loop-tuple-preserved

@@ -1,7 +1,7 @@
 use Rattle.std.proofs.Common.{◌≡◌, ◌∙◌, ◌++◌, [], ◌∷◌, ap, sym, arith, subst, length, drop, filter, get_or, append-nil, List, ℕ, Bool, ◌≤◌}
 use Rattle.std.proofs.lemmas.List.{drop_all, length_push}
-use Rattle.td_types.specs.Headings.{has_name}
-use Rattle.td_value.specs.Values.{Val, Tuple}
+use Rattle.td_types.specs.model.Headings.{has_name}
+use Rattle.td_value.specs.model.Values.{Val, Tuple}
 use Rattle.td_value.specs.code.Views.{tuple_view}
 use Rattle.td_value.proofs.Kept.{kept_no, kept_yes}
 use Rattle.td_value.proofs.tuple.keep_entries.Goals.{then-is_among+in_ok-keep_entry, else-is_among}

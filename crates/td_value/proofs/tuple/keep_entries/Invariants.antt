@@ -1,5 +1,5 @@
 use Rattle.std.proofs.Common.{◌≡◌, ◌++◌, length, drop, filter}
-use Rattle.td_types.specs.Headings.{has_name}
+use Rattle.td_types.specs.model.Headings.{has_name}
 use Rattle.td_value.specs.code.Views.{tuple_view}
 use Rattle.td_value.proofs.tuple.keep_entries.Given as goal
 

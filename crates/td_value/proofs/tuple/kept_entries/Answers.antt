@@ -1,6 +1,6 @@
 use Rattle.std.proofs.Common.{◌∙◌, ap, length, sym, subst, List, ℕ}
-use Rattle.td_types.specs.Headings.{has_name}
-use Rattle.td_value.specs.Values.{Val, IsTuple}
+use Rattle.td_types.specs.model.Headings.{has_name}
+use Rattle.td_value.specs.model.Values.{Val, IsTuple}
 use Rattle.td_value.specs.code.Views.{tuple_view}
 use Rattle.td_value.proofs.Kept.{IsTuple-filter}
 use Rattle.td_value.proofs.tuple.kept_entries.Goals as goal

@@ -2,7 +2,7 @@ use Rattle.std.proofs.Common.{◌∙◌, ◌∷◌, ◌++◌, [], ap, sym, subst
 use Rattle.std.proofs.lemmas.List.{map-append, map-id}
 use Rattle.std.proofs.lemmas.Iterator.Adapters.{YieldsList-from_vec}
 use Rattle.std.proofs.lemmas.Iterator.Consumers.{YieldsList-end}
-use Rattle.td_value.specs.Values.{AreFields, Tuple, IsValue, pack_fields}
+use Rattle.td_value.specs.model.Values.{AreFields, Tuple, IsValue, pack_fields}
 use Rattle.td_value.specs.code.Views.{values_of}
 use Rattle.td_value.proofs.Zips.{AreFields-push}
 use Rattle.td_value.proofs.tuple.values_alone.Goals as goal

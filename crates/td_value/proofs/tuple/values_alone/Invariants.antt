@@ -1,5 +1,5 @@
 use Rattle.std.proofs.Common.{◌≡◌}
-use Rattle.td_value.specs.Values.{AreFields, pack_fields}
+use Rattle.td_value.specs.model.Values.{AreFields, pack_fields}
 use Rattle.td_value.specs.code.Views.{values_of}
 use Rattle.td_value.proofs.tuple.values_alone.Given as goal
 

@@ -1,6 +1,6 @@
 use Rattle.std.proofs.Common.{◌≡◌, ◌<◌, ◌+◌, ◌-◌, ◌∙◌, List, ℕ, length, arith, ap, take, drop}
 use Rattle.td_value.proofs.Made.{alike, depth_first, first_of, none_of_depth, positive}
-use Rattle.td_value.specs.Values.{Val, pack_parts}
+use Rattle.td_value.specs.model.Values.{Val, pack_parts}
 use Rattle.td_value.specs.code.Depths.{parts_depth}
 use Rattle.td_value.proofs.tuples.are_alike.Goals as goal
 

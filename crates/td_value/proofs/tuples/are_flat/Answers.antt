@@ -1,6 +1,6 @@
 use Rattle.std.proofs.Common.{◌≡◌, ◌≤◌, ◌∙◌, ◌++◌, ◌∷◌, [], List, ap, sym, subst, take, arith}
 use Rattle.std.proofs.lemmas.List.{take_more}
-use Rattle.td_value.specs.Values.{Val, pack_parts}
+use Rattle.td_value.specs.model.Values.{Val, pack_parts}
 use Rattle.td_value.specs.code.Depths.{depth, parts_depth}
 use Rattle.td_value.proofs.tuples.are_flat.Goals as goal
 

@@ -2,7 +2,7 @@ use Rattle.std.proofs.Common.{◌≡◌, ◌+◌, ◌∙◌, ◌++◌, List, [],
 use Rattle.std.proofs.lemmas.List.{take_more}
 use Rattle.td_value.proofs.Made.{parts_append, positive}
 use Rattle.td_value.proofs.tuples.level_of_row.Goals.{else-deepest-level, then-deepest-level}
-use Rattle.td_value.specs.Values.{Val, pack_parts}
+use Rattle.td_value.specs.model.Values.{Val, pack_parts}
 use Rattle.td_value.specs.code.Depths.{depth, parts_depth}
 use Rattle.td_value.proofs.tuples.level_of_row.Goals as goal
 

@@ -1,5 +1,5 @@
 use Rattle.std.proofs.Common.{◌≡◌, take}
-use Rattle.td_value.specs.Values.{pack_parts}
+use Rattle.td_value.specs.model.Values.{pack_parts}
 use Rattle.td_value.specs.code.Depths.{parts_depth}
 use Rattle.td_value.proofs.tuples.level_of_row.Given as goal
 

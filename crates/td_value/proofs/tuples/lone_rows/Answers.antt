@@ -4,7 +4,7 @@ use Rattle.std.proofs.Common.{take}
 use Rattle.std.proofs.lemmas.List.{length-drop}
 use Rattle.td_value.proofs.Cut.{cut_first, cut_tuple}
 use Rattle.td_value.proofs.Made.{AreValues-drop, first_of, made_more}
-use Rattle.td_value.specs.Values.{IsTuple, Val}
+use Rattle.td_value.specs.model.Values.{IsTuple, Val}
 use Rattle.td_value.specs.code.Blocks.{row_view}
 use Rattle.td_value.specs.code.Views.{tuple_view}
 use Rattle.td_value.proofs.tuples.lone_rows.Goals as goal

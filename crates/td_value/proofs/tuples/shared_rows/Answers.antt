@@ -1,7 +1,7 @@
 use Rattle.std.proofs.Common.{◌≡◌, ◌+◌, ◌-◌, ◌∙◌, ap, sym, subst, length, drop, ℕ, List}
 use Rattle.std.specs.Vec.{vec_len}
 use Rattle.td_value.proofs.Made.{deep_first, deep_row, first_of, made_more}
-use Rattle.td_value.specs.Values.{AreValues, Val, pack_parts}
+use Rattle.td_value.specs.model.Values.{AreValues, Val, pack_parts}
 use Rattle.td_value.specs.code.Blocks.{AreAsDeep}
 use Rattle.td_value.specs.code.Depths.{parts_depth}
 use Rattle.td_value.specs.code.Zipped.{AreNames}

@@ -1,5 +1,5 @@
 use Rattle.std.proofs.Common.{◌≡◌, ◌≤◌, ◌++◌, drop, length}
-use Rattle.td_value.specs.Values.{pack_parts}
+use Rattle.td_value.specs.model.Values.{pack_parts}
 use Rattle.td_value.specs.code.Blocks.{AreAsDeep, AreWhole, rows_of}
 use Rattle.td_value.specs.code.Depths.{parts_depth}
 use Rattle.td_value.proofs.tuples.shared_rows.Given as goal

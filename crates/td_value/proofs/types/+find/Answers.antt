@@ -3,11 +3,11 @@ use Rattle.std.specs.Prelude.{IfOk, IsOk}
 use Rattle.std.specs.Cmp.Lexicographic.{slice_cmp}
 use Rattle.std.specs.Ordering.{nat_cmp}
 use Rattle.std.specs.List.Sorted.{IsStrictlySortedBy}
-use Rattle.td_types.specs.Types as types
-use Rattle.td_types.specs.Types.{Type', pack}
+use Rattle.td_types.specs.model.Types as types
+use Rattle.td_types.specs.model.Types.{Type', pack}
 use Rattle.td_types.specs.code.Views as heads
-use Rattle.td_types.specs.Headings.{has_attribute, with_attribute}
-use Rattle.td_value.specs.Values.{Val, IsTuple, heading_of, tuple_names, type_of}
+use Rattle.td_types.specs.model.Headings.{has_attribute, with_attribute}
+use Rattle.td_value.specs.model.Values.{Val, IsTuple, heading_of, tuple_names, type_of}
 use Rattle.td_value.specs.code.ValueCode.{unpack_pack_fields}
 use Rattle.td_value.specs.code.Views.{tuple_view, node_view}
 use Rattle.td_value.proofs.Falls.{values_fall}

@@ -1,5 +1,5 @@
 use Rattle.std.proofs.Common.{◌≡◌, take}
-use Rattle.td_value.specs.Values.{heading_of}
+use Rattle.td_value.specs.model.Values.{heading_of}
 use Rattle.td_value.specs.code.Views.{tuple_view}
 use Rattle.td_value.proofs.types.+find.Given as goal
 

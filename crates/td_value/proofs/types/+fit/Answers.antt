@@ -2,9 +2,9 @@ use Rattle.std.proofs.Common.{◌≡◌, ◌∙◌, ap, sym, refl, subst, arith,
 use Rattle.std.specs.Prelude.{◌&&◌, not, is_none, is_some, option_map}
 use Rattle.std.specs.Ordering.{eq_by_cmp, is_eq, nat_cmp}
 use Rattle.std.specs.Cmp.Lexicographic.{slice_cmp, texts_ties}
-use Rattle.td_types.specs.Types.{attrs_cmp, pack, type_cmp}
+use Rattle.td_types.specs.model.Types.{attrs_cmp, pack, type_cmp}
 use Rattle.td_types.specs.code.Views as heads
-use Rattle.td_value.specs.Values.{fields_type, pack_fields, type_of}
+use Rattle.td_value.specs.model.Values.{fields_type, pack_fields, type_of}
 use Rattle.td_value.specs.code.Views.{node_view}
 use Rattle.td_value.proofs.Falls.{values_fall}
 use Rattle.td_value.proofs.Headed.{fits_more, fits_short, fits_end}

@@ -1,8 +1,8 @@
 use Rattle.std.proofs.Common.{◌≡◌, ◌∙◌, ℕ, zero, suc, ◌<◌, List, [], ◌∷◌, ap, sym, subst, arith, length, get_or, map, true≢false}
-use Rattle.td_types.specs.Types.{Type'}
+use Rattle.td_types.specs.model.Types.{Type'}
 use Rattle.td_types.specs.code.Views.{pairs_view, type_view}
 use Rattle.td_types.specs.declared.ty.Ty.{Ty}
-use Rattle.td_value.specs.Values.{HaveTypesOf, Val, type_of}
+use Rattle.td_value.specs.model.Values.{HaveTypesOf, Val, type_of}
 use Rattle.td_value.proofs.user.have_types.Goals as goal
 
 front : (s t : Type') (ss ts : List Type') → s ∷ ss ≡ t ∷ ts → (s ≡ t) × (ss ≡ ts)

@@ -1,6 +1,6 @@
 use Rattle.std.proofs.Common.{◌≡◌, take}
 use Rattle.td_types.specs.code.Views.{pairs_view}
-use Rattle.td_value.specs.Values.{HaveTypesOf}
+use Rattle.td_value.specs.model.Values.{HaveTypesOf}
 use Rattle.td_value.proofs.user.have_types.Given as goal
 
 abbrev pub invariant-loop-value : goal.invariant-loop-value

@@ -1,6 +1,6 @@
 use Rattle.std.proofs.Common.{◌∙◌, ◌++◌, ◌∷◌, [], List, ap, sym, subst, take}
 use Rattle.std.proofs.lemmas.List.{take_more}
-use Rattle.td_value.specs.Values.{Val, AreValues, IsValue, pack_parts}
+use Rattle.td_value.specs.model.Values.{Val, AreValues, IsValue, pack_parts}
 use Rattle.td_value.proofs.user.know_values.Goals as goal
 
 one_more : (vs : List Val) (v : Val) → AreValues (pack_parts vs) → IsValue v → AreValues (pack_parts (vs ++ v ∷ []))

@@ -1,11 +1,10 @@
 use Rattle.std.proofs.Common.{◌≡◌, ◌∙◌, [], ap, arith, subst, sym}
 use Rattle.std.specs.List.Sorted.{IsStrictlySortedBy}
 use Rattle.td_algebra.proofs.Relations.{IsRelation-view}
-use Rattle.td_body.specs.Bodies.{after_change}
+use Rattle.td_body.specs.model.Bodies.{after_change}
 use Rattle.td_body.proofs.Differences.{replaced}
-use Rattle.td_types.specs.Types.{IsHeading, pack}
-use Rattle.td_value.specs.Values.{IsAscendingBody, IsRelation, tuple_cmp}
-use Rattle.td_value.specs.code.Views.{relation_view}
+use Rattle.td_types.specs.model.Types.{IsHeading, pack}
+use Rattle.td_value.specs.model.Values.{IsAscendingBody, IsRelation, tuple_cmp, relation_view}
 use Rattle.td.proofs.tests.catalogs.emptied.Goals as goal
 
 none_ascend : IsStrictlySortedBy tuple_cmp []

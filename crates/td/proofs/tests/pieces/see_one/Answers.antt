@@ -1,5 +1,5 @@
 use Rattle.std.proofs.Common.{◌+◌, ◌∙◌, ap, length}
-use Rattle.td_tree.specs.Statements.{Held}
+use Rattle.td_tree.specs.model.Statements.{Held}
 use Rattle.td_scan.proofs.TakenLaws.{end_stays}
 use Rattle.td.proofs.tests.pieces.see_one.Goals as goal
 

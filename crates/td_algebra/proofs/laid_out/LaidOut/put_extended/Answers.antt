@@ -1,7 +1,7 @@
 use Rattle.std.proofs.Common.{◌≡◌, ◌++◌, ◌∷◌, [], ap, subst, sym}
 use Rattle.std.specs.Prelude.{OnOk}
 use Rattle.std.specs.List.Sorted.{IsPermutation}
-use Rattle.td_algebra.specs.Columns.{cells_at}
+use Rattle.td_algebra.specs.code.Columns.{cells_at}
 use Rattle.td_algebra.specs.code.Layouts.{AreInRange, placed_tuple}
 use Rattle.td_algebra.proofs.LaidOut.{one_put, still_laid}
 use Rattle.td_algebra.proofs.laid_out.LaidOut.put_extended.Goals as goal

@@ -1,6 +1,6 @@
 use Rattle.std.proofs.Common.{not}
-use Rattle.td_value.specs.Sets.{has}
-use Rattle.td_value.specs.Values.{tuple_cmp}
+use Rattle.td_value.specs.model.Sets.{has}
+use Rattle.td_value.specs.model.Values.{tuple_cmp}
 use Rattle.td_algebra.proofs.Lists.{contains_filter}
 use Rattle.td_algebra.proofs.Members.{absent, lacked}
 use Rattle.td_algebra.proofs.laws.sets.difference_by_membership.Goals as goal

@@ -1,5 +1,5 @@
-use Rattle.td_value.specs.Sets.{has}
-use Rattle.td_value.specs.Values.{tuple_cmp}
+use Rattle.td_value.specs.model.Sets.{has}
+use Rattle.td_value.specs.model.Values.{tuple_cmp}
 use Rattle.td_value.proofs.Members.{contained, found}
 use Rattle.td_algebra.proofs.Lists.{contains_filter}
 use Rattle.td_algebra.proofs.laws.sets.intersection_by_membership.Goals as goal

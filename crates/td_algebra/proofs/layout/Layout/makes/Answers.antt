@@ -1,7 +1,7 @@
 use Rattle.std.proofs.Common.{◌≡◌, ◌∙◌, ◌<◌, Bool, true, false, ap, arith, length, map, refl, subst, sym, true≢false}
 use Rattle.std.specs.Prelude.{not}
 use Rattle.std.proofs.lemmas.List.{append-nil, get_or_default, take_all}
-use Rattle.td_value.specs.ValueOrder.{value_Decides}
+use Rattle.td_value.specs.code.ValueOrder.{value_Decides}
 use Rattle.td_algebra.specs.code.Layouts.{AreInRange, placed_values}
 use Rattle.td_algebra.proofs.Layouts.{place_below, placed_zip, value_in, value_read, value_there, values_more, zip_long}
 use Rattle.td_algebra.proofs.layout.Layout.makes.Goals as goal

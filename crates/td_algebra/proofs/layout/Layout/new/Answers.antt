@@ -3,7 +3,7 @@ use Rattle.std.specs.List.{zip}
 use Rattle.std.specs.List.Sorted.{IsPermutation, IsStrictlySortedBy}
 use Rattle.std.specs.Ordering.{nat_cmp}
 use Rattle.std.proofs.lemmas.List.Sorted.{IsPermutation-map}
-use Rattle.td_types.specs.Headings.{are_distinct}
+use Rattle.td_types.specs.model.Headings.{are_distinct}
 use Rattle.td_types.proofs.DistinctNames.{distinct_permuted, name_cmp, rising, sorted_by_names}
 use Rattle.td_algebra.specs.code.Layouts.{Sources}
 use Rattle.td_algebra.proofs.Layouts.{zipped_sources}

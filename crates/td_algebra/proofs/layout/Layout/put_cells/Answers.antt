@@ -1,5 +1,5 @@
 use Rattle.std.proofs.Common.{◌++◌, length, subst, sym, get_or, ◌<◌}
-use Rattle.td_algebra.specs.Columns.{cells_at}
+use Rattle.td_algebra.specs.code.Columns.{cells_at}
 use Rattle.td_algebra.specs.code.Layouts.{AreInRange}
 use Rattle.td_algebra.proofs.Layouts.{place_below, placed_all, placed_one}
 use Rattle.td_algebra.proofs.layout.Layout.put_cells.Goals as goal

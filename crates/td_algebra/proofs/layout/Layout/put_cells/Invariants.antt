@@ -1,5 +1,5 @@
 use Rattle.std.proofs.Common.{◌≡◌, ◌++◌, map, take}
-use Rattle.td_algebra.specs.Columns.{cells_at}
+use Rattle.td_algebra.specs.code.Columns.{cells_at}
 use Rattle.td_algebra.proofs.Layouts.{value_in}
 use Rattle.td_algebra.proofs.layout.Layout.put_cells.Given as goal
 

@@ -1,6 +1,6 @@
 use Rattle.std.proofs.Common.{◌∙◌, ap}
 use Rattle.std.specs.Prelude.{is_some}
-use Rattle.td_algebra.specs.Lookups.{has_part, part_of}
+use Rattle.td_algebra.specs.code.Lookups.{has_part, part_of}
 use Rattle.td_algebra.proofs.Lookups.{first_there}
 use Rattle.td_algebra.proofs.lookup.Lookup.has_partner.Goals as goal
 

@@ -1,5 +1,5 @@
 use Rattle.std.proofs.Common.{◌≡◌, ◌∙◌, ◌+◌, ◌-◌, ◌<◌, ap, arith, drop, length, reverse, subst}
-use Rattle.td_algebra.specs.Lookups.{HasFirsts, next_places, part_of, values_at}
+use Rattle.td_algebra.specs.code.Lookups.{HasFirsts, next_places, part_of, values_at}
 use Rattle.td_algebra.proofs.Lookups.{firsts_more, next_pushed}
 use Rattle.td_algebra.proofs.lookup.Lookup.new.Goals as goal
 

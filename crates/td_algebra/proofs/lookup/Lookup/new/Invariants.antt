@@ -1,5 +1,5 @@
 use Rattle.std.proofs.Common.{◌≡◌, ◌≤◌, drop, length, reverse}
-use Rattle.td_algebra.specs.Lookups.{HasFirsts, next_places}
+use Rattle.td_algebra.specs.code.Lookups.{HasFirsts, next_places}
 use Rattle.td_algebra.proofs.lookup.Lookup.new.Given as goal
 
 abbrev pub invariant-loop-place : goal.invariant-loop-place

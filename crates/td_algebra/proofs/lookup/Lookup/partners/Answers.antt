@@ -1,5 +1,5 @@
 use Rattle.std.proofs.Common.{◌∙◌, ap, arith, length, refl}
-use Rattle.td_algebra.specs.Lookups.{has_part, like_row_at, part_of}
+use Rattle.td_algebra.specs.code.Lookups.{has_part, like_row_at, part_of}
 use Rattle.td_algebra.proofs.Lookups.{first_is_within, first_rows, kept_fewer}
 use Rattle.td_algebra.proofs.lookup.Lookup.partners.Goals as goal
 

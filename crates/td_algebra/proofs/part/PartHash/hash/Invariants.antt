@@ -1,5 +1,5 @@
 use Rattle.std.proofs.Common.{◌≡◌, fold, take}
-use Rattle.td_algebra.specs.Lookups.{values_at}
+use Rattle.td_algebra.specs.code.Lookups.{values_at}
 use Rattle.td_algebra.specs.code.Parts.{fed_values}
 use Rattle.td_algebra.proofs.part.PartHash.hash.Given as goal
 

@@ -1,10 +1,9 @@
 use Rattle.std.proofs.Common.{◌≡◌, ◌∙◌, ap, subst, sym}
 use Rattle.td_algebra.proofs.Keys.{if_ok}
 use Rattle.td_algebra.proofs.Relations.{IsRelation-view}
-use Rattle.td_types.specs.Types.{IsHeading, pack}
-use Rattle.td_value.specs.Values.{IsRelation}
-use Rattle.td_value.specs.code.Views.{relation_view}
-use Rattle.td_body.specs.Bodies.{after_change}
+use Rattle.td_types.specs.model.Types.{IsHeading, pack}
+use Rattle.td_value.specs.model.Values.{IsRelation, relation_view}
+use Rattle.td_body.specs.model.Bodies.{after_change}
 use Rattle.td_body.specs.code.Members.{Members}
 use Rattle.td_body.proofs.Differences.{replaced}
 use Rattle.td_body.proofs.hashed.body.changed_members.Goals as goal

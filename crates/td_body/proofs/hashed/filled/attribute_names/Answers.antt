@@ -1,6 +1,6 @@
 use Rattle.std.proofs.Common.{◌≡◌, ◌∙◌, []}
-use Rattle.td_types.specs.Headings.{new_names}
-use Rattle.td_types.specs.Types.{attribute_names}
+use Rattle.td_types.specs.model.Headings.{new_names}
+use Rattle.td_types.specs.model.Types.{attribute_names}
 use Rattle.td_algebra.proofs.Keys.{if_ok}
 use Rattle.td_body.proofs.MembersLaws.{names_unchanged}
 use Rattle.td_body.proofs.hashed.filled.attribute_names.Goals as goal

@@ -1,6 +1,6 @@
 use Rattle.std.proofs.Common.{◌≡◌, ◌∙◌, ap, map, subst, sym}
 use Rattle.td_algebra.proofs.Keys.{if_ok}
-use Rattle.td_types.specs.Types.{attribute_names}
+use Rattle.td_types.specs.model.Types.{attribute_names}
 use Rattle.td_body.specs.code.KeyParts.{places_from}
 use Rattle.td_body.specs.code.Members.{ArePlaced, places_in}
 use Rattle.td_body.proofs.MembersLaws.{placed_by}

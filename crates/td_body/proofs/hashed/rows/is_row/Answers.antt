@@ -1,5 +1,5 @@
 use Rattle.std.proofs.Common.{◌∙◌, ap, get_or, sym}
-use Rattle.td_value.specs.Values.{tuple_names}
+use Rattle.td_value.specs.model.Values.{tuple_names}
 use Rattle.td_body.proofs.Parts.{one_names}
 use Rattle.td_body.proofs.hashed.rows.is_row.Goals as goal
 

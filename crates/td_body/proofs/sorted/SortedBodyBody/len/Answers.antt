@@ -1,7 +1,7 @@
 use Rattle.std.proofs.Common.{ap, subst}
-use Rattle.td_types.specs.Types.{IsHeading, pack}
-use Rattle.td_body.specs.Bodies.{BodyView}
-use Rattle.td_value.specs.Values.{IsRelation}
+use Rattle.td_types.specs.model.Types.{IsHeading, pack}
+use Rattle.td_body.specs.model.Bodies.{BodyView}
+use Rattle.td_value.specs.model.Values.{IsRelation}
 use Rattle.td_value.proofs.Changes.{relation_from}
 use Rattle.td_body.proofs.sorted.SortedBodyBody.len.Goals as goal
 

@@ -4,17 +4,17 @@ use Rattle.std.specs.Prelude.{is_some}
 use Rattle.std.specs.Map.{lookup}
 use Rattle.td_catalog.specs.code.CatalogViews.{IsCatalog, Known, known_of, known_rows, base_heading, base_view, database_view, rows_of}
 use Rattle.td_catalog.specs.code.Histories.{IsHistory, IsOwnStep, history_view}
-use Rattle.td_catalog.specs.KeptDatabases.{CatalogView}
+use Rattle.td_catalog.specs.code.KeptDatabases.{CatalogView}
 use Rattle.td_catalog.specs.declared.history.Step.TheVariants.{BaseAdded}
 use Rattle.td_catalog.proofs.LedSteps.{base_added}
 use Rattle.td_catalog.proofs.Named.{added_as, found_as, own_more}
 use Rattle.td_catalog.proofs.Steps.{history_next, room_next, view_next}
-use Rattle.td_catalog.specs.Database.{BaseRelvar, Database, base_relvar, knows_relvar, with_base}
-use Rattle.td_catalog.specs.TypedDatabases.{AreTyped}
+use Rattle.td_catalog.specs.model.Database.{BaseRelvar, Database, base_relvar, knows_relvar, with_base}
+use Rattle.td_catalog.specs.model.TypedDatabases.{AreTyped}
 use Rattle.td_catalog.specs.declared.entry.BaseEntry.{BaseEntry}
 use Rattle.td_catalog.proofs.Changes.{catalog_with_base, no_base, view_with_base, with_base_rows}
-use Rattle.td_types.specs.TypeLists.{AreKnown}
-use Rattle.td_types.specs.Types.{pack, same_name}
+use Rattle.td_types.specs.model.TypeLists.{AreKnown}
+use Rattle.td_types.specs.model.Types.{pack, same_name}
 use Rattle.td_catalog.proofs.Rows.{rows_with}
 use Rattle.td_catalog.proofs.catalog.Catalog.add_base.Goals as goal
 

@@ -2,19 +2,19 @@ use Rattle.std.proofs.Common.{◌≡◌, ◌∙◌, ap, arith, false, refl, subs
 use Rattle.std.specs.List.{AllByRecursion, list_any}
 use Rattle.td_catalog.specs.code.CatalogViews.{IsCatalog, Known, known_of, known_rows, Rows, constraint_view, database_view, rows_of}
 use Rattle.td_catalog.specs.code.Histories.{IsHistory, IsOwnStep, history_view}
-use Rattle.td_catalog.specs.KeptDatabases.{CatalogView}
+use Rattle.td_catalog.specs.code.KeptDatabases.{CatalogView}
 use Rattle.td_catalog.specs.declared.history.Step.TheVariants.{ConstraintAdded}
 use Rattle.td_catalog.proofs.LedSteps.{constraint_added}
 use Rattle.td_catalog.proofs.Named.{added_as, any_as, own_more}
 use Rattle.td_catalog.proofs.Steps.{history_next, room_next, view_next}
 use Rattle.std.specs.Prelude.{is_some}
 use Rattle.std.specs.Map.{lookup}
-use Rattle.td_catalog.specs.Database.{Database, NamedConstraint, database_scope, knows_constraint, named_constraint, with_constraint}
-use Rattle.td_catalog.specs.TypedDatabases.{IsTypedConstraint}
+use Rattle.td_catalog.specs.model.Database.{Database, NamedConstraint, database_scope, knows_constraint, named_constraint, with_constraint}
+use Rattle.td_catalog.specs.model.TypedDatabases.{IsTypedConstraint}
 use Rattle.td_catalog.specs.declared.entry.ConstraintEntry.{ConstraintEntry}
 use Rattle.td_catalog.proofs.Changes.{catalog_with_constraint, knows_constraint_by, view_with_constraint, with_constraint_rows}
 use Rattle.td_tree.specs.code.TreeViews.{tree_view}
-use Rattle.td_types.specs.Types.{same_name}
+use Rattle.td_types.specs.model.Types.{same_name}
 use Rattle.td_catalog.proofs.Rows.{accepted, refused, rows_with}
 use Rattle.td_tree.specs.declared.cause.Cause.TheVariants as causes
 use Rattle.td_catalog.proofs.catalog.Catalog.add_constraint.Goals as goal

@@ -2,10 +2,10 @@ use Rattle.std.proofs.Common.{◌≡◌, ◌∙◌, ℕ, false, ap, arith, optio
 use Rattle.std.specs.List.{AllByRecursion}
 use Rattle.std.specs.Prelude.{is_some}
 use Rattle.td_catalog.specs.code.CatalogViews.{database_view, rows_of}
-use Rattle.td_catalog.specs.Database.{Database, with_declared}
+use Rattle.td_catalog.specs.model.Database.{Database, with_declared}
 use Rattle.td_catalog.specs.code.Histories.{HasRoom, IsHistory, IsOwnStep, dropped_in, history_view}
-use Rattle.td_catalog.specs.KeptDatabases.{CatalogView}
-use Rattle.td_catalog.specs.TypedDatabases.{IsConstrained}
+use Rattle.td_catalog.specs.code.KeptDatabases.{CatalogView}
+use Rattle.td_catalog.specs.model.TypedDatabases.{IsConstrained}
 use Rattle.td_catalog.specs.declared.history.Step.TheVariants.{TypeAdded}
 use Rattle.td_catalog.proofs.Changes.{catalog_with_type, with_types}
 use Rattle.td_catalog.proofs.LedSteps.{some_map, type_added}
@@ -13,8 +13,8 @@ use Rattle.td_catalog.proofs.Named.{own_more}
 use Rattle.td_catalog.proofs.Steps.{history_next, room_stays, view_next}
 use Rattle.td_catalog.proofs.catalog.Catalog.add_type.Goals as goal
 use Rattle.td_tree.specs.code.TreeViews.{tree_view}
-use Rattle.td_types.specs.Headings.{are_distinct}
-use Rattle.td_types.specs.TypeLists.{declared_type, is_declared}
+use Rattle.td_types.specs.model.Headings.{are_distinct}
+use Rattle.td_types.specs.model.TypeLists.{declared_type, is_declared}
 use Rattle.td_types.specs.code.Views.{pairs_view}
 use Rattle.td_types.proofs.Made.{names_of_pairs}
 

@@ -2,19 +2,19 @@ use Rattle.std.proofs.Common.{◌≡◌, ◌∙◌, ap, arith, false, map, refl,
 use Rattle.std.specs.List.{AllByRecursion}
 use Rattle.std.specs.Prelude.{is_some}
 use Rattle.std.specs.Map.{lookup}
-use Rattle.td_types.specs.Types.{same_name}
+use Rattle.td_types.specs.model.Types.{same_name}
 use Rattle.td_catalog.specs.code.CatalogViews.{IsCatalog, Known, known_of, known_rows, virtual_heading, virtual_view, database_view, rows_of}
 use Rattle.td_catalog.specs.code.Histories.{IsHistory, IsOwnStep, history_view}
-use Rattle.td_catalog.specs.KeptDatabases.{CatalogView}
+use Rattle.td_catalog.specs.code.KeptDatabases.{CatalogView}
 use Rattle.td_catalog.specs.declared.history.Step.TheVariants.{VirtualAdded}
 use Rattle.td_catalog.proofs.LedSteps.{virtual_added}
 use Rattle.td_catalog.proofs.Named.{added_as, found_as, own_more}
 use Rattle.td_catalog.proofs.Steps.{history_next, room_next, view_next}
-use Rattle.td_catalog.specs.Database.{Database, VirtualRelvar, database_scope, knows_relvar, virtual_relvar, with_virtual}
-use Rattle.td_catalog.specs.TypedDatabases.{IsTypedVirtual}
+use Rattle.td_catalog.specs.model.Database.{Database, VirtualRelvar, database_scope, knows_relvar, virtual_relvar, with_virtual}
+use Rattle.td_catalog.specs.model.TypedDatabases.{IsTypedVirtual}
 use Rattle.td_catalog.specs.declared.entry.VirtualEntry.{VirtualEntry}
 use Rattle.td_catalog.proofs.Changes.{catalog_with_virtual, no_virtual, view_with_virtual, with_virtual_rows}
-use Rattle.td_tree.specs.WrittenTrees.{IsWritten}
+use Rattle.td_tree.specs.model.WrittenTrees.{IsWritten}
 use Rattle.td_tree.specs.code.TreeViews.{tree_view}
 use Rattle.td_catalog.proofs.Rows.{rows_with}
 use Rattle.td_catalog.proofs.catalog.Catalog.add_virtual.Goals as goal

@@ -1,9 +1,9 @@
 use Rattle.std.proofs.Common.{◌∙◌, ap, map, subst, sym}
-use Rattle.td_catalog.specs.KeptDatabases.{CatalogView}
+use Rattle.td_catalog.specs.code.KeptDatabases.{CatalogView}
 use Rattle.std.specs.Prelude.{⊤}
 use Rattle.std.specs.List.{list_any}
-use Rattle.td_catalog.specs.Database.{Database}
-use Rattle.td_catalog.specs.Mentioned.{base_mentions_type}
+use Rattle.td_catalog.specs.model.Database.{Database}
+use Rattle.td_catalog.specs.model.Mentioned.{base_mentions_type}
 use Rattle.td_catalog.proofs.Visits.{AreLeft, bases_mention_as, heading_mentions, left_all, left_next, left_none, left_passed, nothing_asked}
 use Rattle.td_catalog.proofs.catalog.Catalog.bases_mention.Goals as goal
 

@@ -1,6 +1,6 @@
 use Rattle.std.specs.Prelude.{⊤}
 use Rattle.std.specs.List.{list_any}
-use Rattle.td_catalog.specs.Mentioned.{base_mentions_type}
+use Rattle.td_catalog.specs.model.Mentioned.{base_mentions_type}
 use Rattle.td_catalog.proofs.Visits.{AreLeft, heading_mentions}
 use Rattle.td_catalog.proofs.catalog.Catalog.bases_mention.Given as goal
 

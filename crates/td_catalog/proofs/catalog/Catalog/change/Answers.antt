@@ -1,10 +1,10 @@
 use Rattle.std.proofs.Common.{◌≡◌, ◌∙◌, ℕ, ap, refl, subst, sym}
 use Rattle.std.specs.List.{AllByRecursion}
-use Rattle.td_body.specs.Bodies.{after_change}
+use Rattle.td_body.specs.model.Bodies.{after_change}
 use Rattle.td_catalog.specs.code.CatalogViews.{database_view, rows_of}
-use Rattle.td_catalog.specs.Database.{base_named, with_body}
+use Rattle.td_catalog.specs.model.Database.{base_named, with_body}
 use Rattle.td_catalog.specs.code.Histories.{HasRoom, IsHistory, IsOwnStep, before, dropped_in, held_view, history_view}
-use Rattle.td_catalog.specs.KeptDatabases.{CatalogView, advanced_view}
+use Rattle.td_catalog.specs.code.KeptDatabases.{CatalogView, advanced_view}
 use Rattle.td_catalog.specs.declared.history.Step.TheVariants.{BodyChanged}
 use Rattle.td_catalog.proofs.ChangedBodies.{if_some, on_any_error}
 use Rattle.td_catalog.proofs.Named.{own_more}

@@ -1,5 +1,5 @@
 use Rattle.std.specs.List.{list_any}
-use Rattle.td_catalog.specs.Database.{NamedConstraint}
+use Rattle.td_catalog.specs.model.Database.{NamedConstraint}
 use Rattle.td_catalog.specs.code.Sought.{tree_mentions}
 use Rattle.td_catalog.proofs.Visits.{AreLeft, ConstraintTyped, constraint_passes}
 use Rattle.td_catalog.proofs.catalog.Catalog.constraints_mention.Given as goal

@@ -1,11 +1,11 @@
 use Rattle.std.proofs.Common.{ap, map, refl, subst, sym, ◌∙◌}
-use Rattle.td_catalog.specs.KeptDatabases.{CatalogView}
+use Rattle.td_catalog.specs.code.KeptDatabases.{CatalogView}
 use Rattle.td_catalog.specs.code.CatalogViews.{base_view}
-use Rattle.td_catalog.specs.Database.{BaseRelvar, Database}
+use Rattle.td_catalog.specs.model.Database.{BaseRelvar, Database}
 use Rattle.td_catalog.proofs.Copies.{BaseParts, IsCopied, base_parts, bases_of, copied_all, copied_next, copied_none, entries_alike, names_of, parts_alike}
 use Rattle.td_catalog.proofs.Lists.{distinct_front}
 use Rattle.td_catalog.proofs.catalog.Catalog.copied_bases.Goals as goal
-use Rattle.td_types.specs.Headings.{are_distinct}
+use Rattle.td_types.specs.model.Headings.{are_distinct}
 
 pub loop-name-init : goal.loop-name-init
 loop-name-init g c =

@@ -1,6 +1,6 @@
 use Rattle.std.proofs.Common.{refl}
 use Rattle.td_catalog.specs.code.CatalogViews.{constraint_view}
-use Rattle.td_catalog.specs.Database.{NamedConstraint}
+use Rattle.td_catalog.specs.model.Database.{NamedConstraint}
 use Rattle.td_catalog.proofs.Copies.{IsCopied}
 use Rattle.td_catalog.proofs.catalog.Catalog.copied_constraints.Given as goal
 

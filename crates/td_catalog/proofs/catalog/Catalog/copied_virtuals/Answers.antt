@@ -1,8 +1,8 @@
 use Rattle.std.proofs.Common.{ap, map, refl, subst, ◌∙◌}
-use Rattle.td_catalog.specs.KeptDatabases.{CatalogView}
+use Rattle.td_catalog.specs.code.KeptDatabases.{CatalogView}
 use Rattle.td_catalog.specs.code.CatalogViews.{virtual_view}
-use Rattle.td_catalog.specs.Database.{BaseRelvar, Database, VirtualRelvar}
-use Rattle.td_catalog.specs.TypedDatabases.{IsTyped}
+use Rattle.td_catalog.specs.model.Database.{BaseRelvar, Database, VirtualRelvar}
+use Rattle.td_catalog.specs.model.TypedDatabases.{IsTyped}
 use Rattle.td_catalog.proofs.Copies.{IsCopied, copied_next, copied_none}
 use Rattle.td_catalog.proofs.Lists.{distinct_behind}
 use Rattle.td_catalog.proofs.catalog.Catalog.copied_virtuals.Goals as goal

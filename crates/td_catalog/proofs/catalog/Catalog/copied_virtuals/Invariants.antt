@@ -1,6 +1,6 @@
 use Rattle.std.proofs.Common.{refl}
 use Rattle.td_catalog.specs.code.CatalogViews.{virtual_view}
-use Rattle.td_catalog.specs.Database.{VirtualRelvar}
+use Rattle.td_catalog.specs.model.Database.{VirtualRelvar}
 use Rattle.td_catalog.proofs.Copies.{IsCopied}
 use Rattle.td_catalog.proofs.catalog.Catalog.copied_virtuals.Given as goal
 

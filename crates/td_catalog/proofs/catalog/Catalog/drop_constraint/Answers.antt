@@ -4,9 +4,9 @@ use Rattle.std.specs.List.{AllByRecursion, find, list_any}
 use Rattle.std.specs.Map.{lookup}
 use Rattle.std.specs.Set.{remove_key}
 use Rattle.td_catalog.specs.code.CatalogViews.{IsCatalog, Known, Rows, database_view, known_of, known_rows, rows_of}
-use Rattle.td_catalog.specs.Database.{knows_constraint, without_constraint}
+use Rattle.td_catalog.specs.model.Database.{knows_constraint, without_constraint}
 use Rattle.td_catalog.specs.code.Histories.{IsHistory, IsOwnStep, history_view}
-use Rattle.td_catalog.specs.KeptDatabases.{CatalogView}
+use Rattle.td_catalog.specs.code.KeptDatabases.{CatalogView}
 use Rattle.td_catalog.specs.declared.history.Step.TheVariants.{ConstraintDropped}
 use Rattle.td_catalog.proofs.Changes.{knows_constraint_by, with_constraint_rows}
 use Rattle.td_catalog.proofs.EntriesLess.{catalog_without_constraint, view_without_constraint}
@@ -16,7 +16,7 @@ use Rattle.td_catalog.proofs.Rows.{missing, present}
 use Rattle.td_catalog.proofs.Steps.{history_next, room_next, view_next}
 use Rattle.td_catalog.proofs.catalog.Catalog.drop_constraint.Goals as goal
 use Rattle.td_tree.specs.declared.cause.Cause.TheVariants as causes
-use Rattle.td_types.specs.Types.{same_name}
+use Rattle.td_types.specs.model.Types.{same_name}
 
 pub invariant_of-self-2 : goal.invariant_of-self-2
 invariant_of-self-2 g c =

@@ -2,10 +2,10 @@ use Rattle.std.proofs.Common.{◌∙◌, ℕ, ap, arith, refl, subst, sym}
 use Rattle.std.specs.List.{AllByRecursion}
 use Rattle.std.specs.Prelude.{not}
 use Rattle.td_catalog.specs.code.CatalogViews.{database_view, rows_of}
-use Rattle.td_catalog.specs.Database.{without_type}
+use Rattle.td_catalog.specs.model.Database.{without_type}
 use Rattle.td_catalog.specs.code.Histories.{HasRoom, IsHistory, IsOwnStep, dropped_in, held_view, history_view, with_held_types}
-use Rattle.td_catalog.specs.KeptDatabases.{CatalogView}
-use Rattle.td_catalog.specs.Mentioned.{is_type_in_use}
+use Rattle.td_catalog.specs.code.KeptDatabases.{CatalogView}
+use Rattle.td_catalog.specs.model.Mentioned.{is_type_in_use}
 use Rattle.td_catalog.specs.declared.history.Step.TheVariants.{TypeDropped}
 use Rattle.td_catalog.proofs.Changes.{with_types}
 use Rattle.td_catalog.proofs.EntriesLess.{catalog_without_type}

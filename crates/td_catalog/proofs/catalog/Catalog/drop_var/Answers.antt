@@ -1,11 +1,11 @@
 use Rattle.std.proofs.Common.{◌∙◌, ap, map, refl, sym}
 use Rattle.td_catalog.specs.code.CatalogViews.{base_view, rows_of, virtual_view}
-use Rattle.td_catalog.specs.Database.{BaseRelvar, Database, VirtualRelvar, knows_relvar}
-use Rattle.td_catalog.specs.KeptDatabases.{CatalogView}
+use Rattle.td_catalog.specs.model.Database.{BaseRelvar, Database, VirtualRelvar, knows_relvar}
+use Rattle.td_catalog.specs.code.KeptDatabases.{CatalogView}
 use Rattle.td_catalog.proofs.Changes.{unknown_base}
 use Rattle.td_catalog.proofs.Rows.{known}
 use Rattle.td_catalog.proofs.catalog.Catalog.drop_var.Goals as goal
-use Rattle.td_types.specs.Headings.{has_name}
+use Rattle.td_types.specs.model.Headings.{has_name}
 
 pub drop_base-requires-clause-known : goal.drop_base-requires-clause-known
 drop_base-requires-clause-known g c =

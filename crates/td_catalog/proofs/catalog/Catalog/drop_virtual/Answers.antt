@@ -3,10 +3,10 @@ use Rattle.std.specs.Prelude.{is_some}
 use Rattle.std.specs.List.{AllByRecursion}
 use Rattle.std.specs.Map.{lookup, lookup_key, remove_entry}
 use Rattle.td_catalog.specs.code.CatalogViews.{IsCatalog, Known, virtual_heading, virtual_view, database_view, known_of, known_rows, rows_of}
-use Rattle.td_catalog.specs.Database.{Database, VirtualRelvar, without_relvar}
+use Rattle.td_catalog.specs.model.Database.{Database, VirtualRelvar, without_relvar}
 use Rattle.td_catalog.specs.code.Histories.{IsHistory, IsOwnStep, history_view}
-use Rattle.td_catalog.specs.KeptDatabases.{CatalogView}
-use Rattle.td_catalog.specs.Mentioned.{is_relvar_in_use}
+use Rattle.td_catalog.specs.code.KeptDatabases.{CatalogView}
+use Rattle.td_catalog.specs.model.Mentioned.{is_relvar_in_use}
 use Rattle.td_catalog.specs.declared.history.Step.TheVariants.{VirtualDropped}
 use Rattle.td_catalog.proofs.Changes.{with_virtual_rows}
 use Rattle.td_catalog.proofs.EntriesLess.{catalog_without_virtual, view_without_virtual}
@@ -15,8 +15,8 @@ use Rattle.td_catalog.proofs.Named.{found_as, own_as, own_more, removed_as}
 use Rattle.td_catalog.proofs.Rows.{known}
 use Rattle.td_catalog.proofs.Steps.{history_next, room_next, view_next}
 use Rattle.td_catalog.proofs.catalog.Catalog.drop_virtual.Goals as goal
-use Rattle.td_types.specs.Headings.{has_name}
-use Rattle.td_types.specs.Types.{same_name}
+use Rattle.td_types.specs.model.Headings.{has_name}
+use Rattle.td_types.specs.model.Types.{same_name}
 
 pub invariant_of-self-2 : goal.invariant_of-self-2
 invariant_of-self-2 g c =

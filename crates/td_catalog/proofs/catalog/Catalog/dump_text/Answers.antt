@@ -1,7 +1,7 @@
 use Rattle.std.proofs.Common.{◌≡◌, ◌∙◌, ◌++◌, ℕ, List, [], ap}
 use Rattle.std.specs.List.{flat_map}
-use Rattle.td_catalog.specs.Database.{Database}
-use Rattle.td_catalog.specs.Dumps.{base_line, constraint_line, dump_text, type_line, virtual_line}
+use Rattle.td_catalog.specs.model.Database.{Database}
+use Rattle.td_catalog.specs.model.Dumps.{base_line, constraint_line, dump_text, type_line, virtual_line}
 use Rattle.td_catalog.proofs.catalog.Catalog.dump_text.Goals as goal
 
 -- the four lists, one put behind another

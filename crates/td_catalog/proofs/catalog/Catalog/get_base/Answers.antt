@@ -1,7 +1,7 @@
 use Rattle.std.proofs.Common.{◌∙◌, ap, refl, subst, sym, IfSome, option_map}
-use Rattle.td_catalog.specs.KeptDatabases.{CatalogView}
+use Rattle.td_catalog.specs.code.KeptDatabases.{CatalogView}
 use Rattle.td_catalog.specs.code.CatalogViews.{IsEntry, base_view}
-use Rattle.td_catalog.specs.Database.{BaseRelvar, base_named}
+use Rattle.td_catalog.specs.model.Database.{BaseRelvar, base_named}
 use Rattle.td_catalog.proofs.Changes.{as_body}
 use Rattle.td_catalog.proofs.Rows.{found, if_references, map_references}
 use Rattle.td_catalog.proofs.catalog.Catalog.get_base.Goals as goal

@@ -1,7 +1,7 @@
 use Rattle.std.proofs.Common.{◌∙◌, ap, refl, option_map}
-use Rattle.td_catalog.specs.KeptDatabases.{CatalogView}
+use Rattle.td_catalog.specs.code.KeptDatabases.{CatalogView}
 use Rattle.td_catalog.specs.code.CatalogViews.{virtual_view}
-use Rattle.td_catalog.specs.Database.{VirtualRelvar, virtual_named}
+use Rattle.td_catalog.specs.model.Database.{VirtualRelvar, virtual_named}
 use Rattle.td_catalog.proofs.Rows.{found, map_references}
 use Rattle.td_catalog.proofs.catalog.Catalog.get_virtual.Goals as goal
 

@@ -1,7 +1,7 @@
 use Rattle.std.proofs.Common.{◌∙◌, ap, sym}
-use Rattle.td_catalog.specs.KeptDatabases.{CatalogView}
+use Rattle.td_catalog.specs.code.KeptDatabases.{CatalogView}
 use Rattle.td_catalog.specs.code.CatalogViews.{rows_of}
-use Rattle.td_catalog.specs.Database.{knows_relvar}
+use Rattle.td_catalog.specs.model.Database.{knows_relvar}
 use Rattle.td_catalog.proofs.Changes.{known_base, unknown_base}
 use Rattle.td_catalog.proofs.catalog.Catalog.has_relvar.Goals as goal
 

@@ -1,8 +1,8 @@
 use Rattle.std.proofs.Common.{◌∙◌, ap, sym}
 use Rattle.std.specs.Prelude.{◌||◌}
 use Rattle.std.specs.List.{list_any}
-use Rattle.td_catalog.specs.Database.{NamedConstraint, VirtualRelvar, database_scope}
-use Rattle.td_catalog.specs.Mentioned.{tree_mentions_relvar}
+use Rattle.td_catalog.specs.model.Database.{NamedConstraint, VirtualRelvar, database_scope}
+use Rattle.td_catalog.specs.model.Mentioned.{tree_mentions_relvar}
 use Rattle.td_catalog.proofs.catalog.Catalog.is_relvar_in_use.Goals as goal
 use Rattle.td_catalog.proofs.catalog.Catalog.is_relvar_in_use.Goals.{else-branch+in_ok-constraints_mention, then-branch}
 

@@ -1,6 +1,6 @@
 use Rattle.std.proofs.Common.{◌∙◌, ap, length, sym}
 use Rattle.td_catalog.specs.code.CatalogViews.{rows_of}
-use Rattle.td_catalog.specs.KeptDatabases.{CatalogView}
+use Rattle.td_catalog.specs.code.KeptDatabases.{CatalogView}
 use Rattle.td_catalog.proofs.Steps.{view_counted}
 use Rattle.td_catalog.proofs.catalog.Catalog.kept.Goals as goal
 

@@ -1,10 +1,10 @@
 use Rattle.std.proofs.Common.{◌≡◌, ◌∙◌, ◌++◌, ℕ, List, ap, map, string_bytes}
 use Rattle.td_catalog.specs.code.CatalogViews.{base_view}
-use Rattle.td_catalog.specs.Database.{base_relvar}
-use Rattle.td_catalog.specs.Dumps.{base_line}
+use Rattle.td_catalog.specs.model.Database.{base_relvar}
+use Rattle.td_catalog.specs.model.Dumps.{base_line}
 use Rattle.td_catalog.proofs.Lines.{line_put}
 use Rattle.td_catalog.proofs.catalog.Catalog.put_bases.Goals as goal
-use Rattle.td_value.specs.Values.{Relation}
+use Rattle.td_value.specs.model.Values.{Relation}
 
 -- a line of the same keys and of the same relation
 same_line : (name : List ℕ) (given keys : List (List (List ℕ))) (held relation : Relation) (out after : List ℕ) → given ≡ keys → held ≡ relation

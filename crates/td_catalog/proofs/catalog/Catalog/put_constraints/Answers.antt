@@ -1,4 +1,4 @@
-use Rattle.td_catalog.specs.Dumps.{constraint_line}
+use Rattle.td_catalog.specs.model.Dumps.{constraint_line}
 use Rattle.td_catalog.proofs.Lines.{line_put}
 use Rattle.td_catalog.proofs.catalog.Catalog.put_constraints.Goals as goal
 

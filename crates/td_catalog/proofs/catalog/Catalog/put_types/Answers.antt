@@ -1,11 +1,11 @@
 use Rattle.std.proofs.Common.{◌≡◌, ◌∙◌, ◌++◌, ℕ, List, None, Option, Some, ap, option_map, string_bytes}
-use Rattle.td_catalog.specs.KeptDatabases.{CatalogView}
+use Rattle.td_catalog.specs.code.KeptDatabases.{CatalogView}
 use Rattle.std.specs.List.{slice_get}
-use Rattle.td_catalog.specs.Database.{Database}
-use Rattle.td_catalog.specs.Dumps.{type_line}
+use Rattle.td_catalog.specs.model.Database.{Database}
+use Rattle.td_catalog.specs.model.Dumps.{type_line}
 use Rattle.td_catalog.proofs.Lines.{line_put}
 use Rattle.td_catalog.proofs.catalog.Catalog.put_types.Goals as goal
-use Rattle.td_types.specs.TypeLists.{DeclaredType, declared_type}
+use Rattle.td_types.specs.model.TypeLists.{DeclaredType, declared_type}
 
 -- the name and the type that stand at one place
 named_as : (name : List ℕ) (d : DeclaredType) (o : Option DeclaredType) → Some name ≡ option_map (λ (x : DeclaredType). x.name) o → Some d ≡ o → name ≡ d.name

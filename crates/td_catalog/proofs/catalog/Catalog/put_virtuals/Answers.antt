@@ -1,4 +1,4 @@
-use Rattle.td_catalog.specs.Dumps.{virtual_line}
+use Rattle.td_catalog.specs.model.Dumps.{virtual_line}
 use Rattle.td_catalog.proofs.Lines.{line_put}
 use Rattle.td_catalog.proofs.catalog.Catalog.put_virtuals.Goals as goal
 

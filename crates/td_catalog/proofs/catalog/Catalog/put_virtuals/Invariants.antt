@@ -1,6 +1,6 @@
 use Rattle.std.proofs.Common.{◌≡◌, ◌++◌, string_bytes, take}
 use Rattle.std.specs.List.{flat_map}
-use Rattle.td_catalog.specs.Dumps.{virtual_line}
+use Rattle.td_catalog.specs.model.Dumps.{virtual_line}
 use Rattle.td_catalog.proofs.catalog.Catalog.put_virtuals.Given as goal
 
 abbrev pub invariant-loop-place : goal.invariant-loop-place

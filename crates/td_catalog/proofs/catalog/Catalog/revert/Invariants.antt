@@ -1,5 +1,5 @@
 use Rattle.std.proofs.Common.{◌≡◌, ◌+◌, ◌≤◌, length, take}
-use Rattle.td_catalog.specs.KeptDatabases.{stages}
+use Rattle.td_catalog.specs.code.KeptDatabases.{stages}
 use Rattle.td_catalog.proofs.catalog.Catalog.revert.Given as goal
 
 abbrev pub invariant-back : goal.invariant-back

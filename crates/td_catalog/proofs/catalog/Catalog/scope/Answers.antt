@@ -1,7 +1,7 @@
 use Rattle.std.proofs.Common.{◌≡◌, ◌∙◌, ap, arith, take}
-use Rattle.td_catalog.specs.KeptDatabases.{CatalogView}
+use Rattle.td_catalog.specs.code.KeptDatabases.{CatalogView}
 use Rattle.std.proofs.lemmas.List.{take_all}
-use Rattle.td_catalog.specs.Database.{Database, database_scope, with_virtuals}
+use Rattle.td_catalog.specs.model.Database.{Database, database_scope, with_virtuals}
 use Rattle.td_catalog.proofs.ByPlace.{rows_counted}
 use Rattle.td_catalog.proofs.catalog.Catalog.scope.Goals as goal
 

@@ -1,7 +1,7 @@
 use Rattle.std.proofs.Common.{◌∙◌, ap, take}
 use Rattle.td_catalog.specs.code.CatalogViews.{known_of, rows_of}
-use Rattle.td_catalog.specs.Database.{Database, database_scope, with_virtuals}
-use Rattle.td_catalog.specs.KeptDatabases.{CatalogView}
+use Rattle.td_catalog.specs.model.Database.{Database, database_scope, with_virtuals}
+use Rattle.td_catalog.specs.code.KeptDatabases.{CatalogView}
 use Rattle.td_catalog.proofs.Named.{lent_is}
 use Rattle.td_catalog.proofs.catalog.Catalog.scope_before.Goals as goal
 

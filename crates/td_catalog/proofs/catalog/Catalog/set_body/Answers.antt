@@ -1,9 +1,9 @@
 use Rattle.std.proofs.Common.{◌∙◌, IfSome, ap, refl, subst, sym, true≢false}
 use Rattle.std.specs.Prelude.{is_some}
 use Rattle.td_catalog.specs.code.CatalogViews.{IsBodyOf, base_heading, base_view, known_rows, rows_of}
-use Rattle.td_catalog.specs.Database.{BaseRelvar, Database, base_named, with_body}
-use Rattle.td_catalog.specs.KeptDatabases.{CatalogView, settled_view}
-use Rattle.td_catalog.specs.TypedDatabases.{AreTyped}
+use Rattle.td_catalog.specs.model.Database.{BaseRelvar, Database, base_named, with_body}
+use Rattle.td_catalog.specs.code.KeptDatabases.{CatalogView, settled_view}
+use Rattle.td_catalog.specs.model.TypedDatabases.{AreTyped}
 use Rattle.td_catalog.proofs.Changes.{catalog_with_body, view_with_body}
 use Rattle.td_catalog.proofs.LedSteps.{set_same}
 use Rattle.td_catalog.proofs.Named.{with_known_bases}

@@ -1,8 +1,8 @@
 use Rattle.std.proofs.Common.{◌≡◌, ◌∙◌, ap, map, subst, sym}
 use Rattle.td_catalog.specs.code.CatalogViews.{base_view, database_view, known_of, rows_of, virtual_view}
-use Rattle.td_catalog.specs.Database.{BaseRelvar, Database, VirtualRelvar}
-use Rattle.td_catalog.specs.KeptDatabases.{CatalogView}
-use Rattle.td_catalog.specs.TypedDatabases.{IsTyped}
+use Rattle.td_catalog.specs.model.Database.{BaseRelvar, Database, VirtualRelvar}
+use Rattle.td_catalog.specs.code.KeptDatabases.{CatalogView}
+use Rattle.td_catalog.specs.model.TypedDatabases.{IsTyped}
 use Rattle.td_catalog.specs.declared.tables.Tables.{Tables}
 use Rattle.td_catalog.proofs.Lists.{distinct_behind, distinct_front}
 use Rattle.td_catalog.proofs.Named.{bases_apart, constraints_apart, same_known, virtuals_apart}

@@ -1,16 +1,16 @@
 use Rattle.std.proofs.Common.{◌≡◌, ◌∙◌, ap, arith, length, sym, take}
-use Rattle.td_catalog.specs.KeptDatabases.{CatalogView}
+use Rattle.td_catalog.specs.code.KeptDatabases.{CatalogView}
 use Rattle.std.specs.Prelude.{◌||◌}
 use Rattle.std.specs.List.{list_any, slice_get}
 use Rattle.std.proofs.lemmas.List.{take_all}
 use Rattle.td_catalog.specs.code.CatalogViews.{database_view, rows_of}
-use Rattle.td_catalog.specs.Database.{Database}
-use Rattle.td_catalog.specs.Mentioned.{condition_mentions_type, type_mentions_type}
+use Rattle.td_catalog.specs.model.Database.{Database}
+use Rattle.td_catalog.specs.model.Mentioned.{condition_mentions_type, type_mentions_type}
 use Rattle.td_catalog.proofs.Visits.{components_distinct, condition_typed, none_next, passes_at}
 use Rattle.td_catalog.proofs.catalog.Catalog.types_mention.Goals as goal
 use Rattle.td_catalog.proofs.catalog.Catalog.types_mention.Goals.{then-components_name_user-via-else-components_name_user+in_ok-constraint_mentions+then-branch, then-components_name_user-via-then-components_name_user}
-use Rattle.td_types.specs.NamedTypes.{any_names_user}
-use Rattle.td_types.specs.Types.{pack}
+use Rattle.td_types.specs.model.NamedTypes.{any_names_user}
+use Rattle.td_types.specs.model.Types.{pack}
 
 pub constraint_mentions-requires : goal.constraint_mentions-requires
 constraint_mentions-requires g c =

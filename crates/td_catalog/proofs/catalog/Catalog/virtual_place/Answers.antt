@@ -1,10 +1,10 @@
 use Rattle.std.proofs.Common.{◌∙◌, ap}
-use Rattle.td_catalog.specs.KeptDatabases.{CatalogView}
+use Rattle.td_catalog.specs.code.KeptDatabases.{CatalogView}
 use Rattle.std.specs.List.{position}
-use Rattle.td_catalog.specs.Database.{Database, VirtualRelvar}
+use Rattle.td_catalog.specs.model.Database.{Database, VirtualRelvar}
 use Rattle.td_catalog.proofs.ByPlace.{place_found}
 use Rattle.td_catalog.proofs.catalog.Catalog.virtual_place.Goals as goal
-use Rattle.td_types.specs.Types.{same_name}
+use Rattle.td_types.specs.model.Types.{same_name}
 
 pub returns : goal.returns
 returns g c =

@@ -1,7 +1,7 @@
 use Rattle.std.proofs.Common.{◌∙◌, Some, ap, option_map}
-use Rattle.td_catalog.specs.KeptDatabases.{CatalogView}
+use Rattle.td_catalog.specs.code.KeptDatabases.{CatalogView}
 use Rattle.std.specs.List.{slice_get}
-use Rattle.td_catalog.specs.Database.{Database, VirtualRelvar}
+use Rattle.td_catalog.specs.model.Database.{Database, VirtualRelvar}
 use Rattle.td_catalog.proofs.ByPlace.{tree_at}
 use Rattle.td_catalog.proofs.catalog.Catalog.virtual_tree_at.Goals as goal
 use Rattle.td_tree.specs.code.TreeViews.{tree_view}

@@ -1,8 +1,8 @@
 use Rattle.std.proofs.Common.{◌∙◌, ap, map, subst, sym}
-use Rattle.td_catalog.specs.KeptDatabases.{CatalogView}
+use Rattle.td_catalog.specs.code.KeptDatabases.{CatalogView}
 use Rattle.std.specs.List.{AllByRecursion, list_any}
-use Rattle.td_catalog.specs.Database.{Database, VirtualRelvar}
-use Rattle.td_catalog.specs.TypedDatabases.{IsTyped}
+use Rattle.td_catalog.specs.model.Database.{Database, VirtualRelvar}
+use Rattle.td_catalog.specs.model.TypedDatabases.{IsTyped}
 use Rattle.td_catalog.specs.code.Sought.{tree_mentions}
 use Rattle.td_catalog.proofs.Visits.{AreLeft, VirtualTyped, virtual_passes, virtual_rows_typed, virtuals_as, left_all, left_next, left_none, left_passed}
 use Rattle.td_catalog.proofs.catalog.Catalog.virtuals_mention.Goals as goal

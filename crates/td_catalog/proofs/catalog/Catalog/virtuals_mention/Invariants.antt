@@ -1,5 +1,5 @@
 use Rattle.std.specs.List.{list_any}
-use Rattle.td_catalog.specs.Database.{VirtualRelvar}
+use Rattle.td_catalog.specs.model.Database.{VirtualRelvar}
 use Rattle.td_catalog.specs.code.Sought.{tree_mentions}
 use Rattle.td_catalog.proofs.Visits.{AreLeft, VirtualTyped, virtual_passes}
 use Rattle.td_catalog.proofs.catalog.Catalog.virtuals_mention.Given as goal

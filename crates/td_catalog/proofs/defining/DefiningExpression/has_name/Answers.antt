@@ -1,8 +1,8 @@
 use Rattle.std.proofs.Common.{◌∙◌, ap}
 use Rattle.td_check.proofs.NameSets.{names_are_a_set}
-use Rattle.td_check.specs.WrittenNames.{names_in}
+use Rattle.td_check.specs.laws.WrittenNames.{names_in}
 use Rattle.td_tree.specs.code.TreeViews.{tree_view}
-use Rattle.td_types.specs.Headings.{has_name}
+use Rattle.td_types.specs.model.Headings.{has_name}
 use Rattle.td_catalog.proofs.defining.DefiningExpression.has_name.Goals as goal
 
 pub returns : goal.returns

@@ -1,12 +1,12 @@
 use Rattle.std.proofs.Common.{◌∙◌, ℕ, Bool, List, ap}
 use Rattle.std.specs.List.{list_any}
 use Rattle.td_catalog.proofs.SameAny.{same_any}
-use Rattle.td_catalog.specs.NamedRelvars.{names_any}
+use Rattle.td_catalog.specs.laws.NamedRelvars.{names_any}
 use Rattle.td_check.proofs.NameSets.{names_are_a_set}
-use Rattle.td_check.specs.Mentions.{name_set}
-use Rattle.td_check.specs.WrittenNames.{names_in}
+use Rattle.td_check.specs.model.Mentions.{name_set}
+use Rattle.td_check.specs.laws.WrittenNames.{names_in}
 use Rattle.td_tree.specs.code.TreeViews.{tree_view}
-use Rattle.td_types.specs.Headings.{has_name}
+use Rattle.td_types.specs.model.Headings.{has_name}
 use Rattle.td_catalog.proofs.defining.DefiningExpression.names_any.Goals as goal
 
 pub returns : goal.returns

@@ -1,7 +1,7 @@
 use Rattle.std.proofs.Common.{◌∙◌, ap, map, refl, sym, true≢false}
 use Rattle.std.specs.Prelude.{is_some}
 use Rattle.td_catalog.specs.code.CatalogViews.{base_heading, base_view, database_view, known_rows, rows_of}
-use Rattle.td_catalog.specs.Database.{BaseRelvar}
+use Rattle.td_catalog.specs.model.Database.{BaseRelvar}
 use Rattle.td_catalog.specs.code.Histories.{held_base, held_view, with_held_bases}
 use Rattle.td_catalog.proofs.ChangedBodies.{IsChangedEntry, catalog_changed, headings_at, on_err, on_ok, view_changed}
 use Rattle.td_catalog.proofs.LedSteps.{changed_body, first_place, set_same}

@@ -1,6 +1,6 @@
 use Rattle.std.proofs.Common.{ap, map, refl}
 use Rattle.td_catalog.specs.code.CatalogViews.{base_heading, base_view, known_rows, database_view, rows_of}
-use Rattle.td_catalog.specs.Database.{with_bases}
+use Rattle.td_catalog.specs.model.Database.{with_bases}
 use Rattle.td_catalog.proofs.Copies.{base_parts, entries_alike}
 use Rattle.td_catalog.proofs.LedSteps.{set_same}
 use Rattle.td_catalog.proofs.Named.{with_known_bases}

@@ -7,7 +7,7 @@ use Rattle.td_catalog.specs.code.Histories.{IsOwnStep, IsStage, before, held_bas
 use Rattle.td_catalog.proofs.LastTypes.{last_unused}
 use Rattle.td_catalog.proofs.PutBack.{base_free, constraint_free, view_inserted, virtual_free}
 use Rattle.td_catalog.proofs.Named.{again_as, any_as, found_as}
-use Rattle.td_types.specs.Types.{Heading, same_name}
+use Rattle.td_types.specs.model.Types.{Heading, same_name}
 use Rattle.td_catalog.proofs.tables.Tables.undo.Goals as goal
 
 pub remove-requires : goal.remove-requires

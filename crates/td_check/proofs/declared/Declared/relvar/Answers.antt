@@ -3,7 +3,7 @@ use Rattle.std.specs.Map.{lookup}
 use Rattle.td_check.specs.code.ScopeCode.{seen_view}
 use Rattle.td_check.specs.declared.scope.Kind.TheVariants.{Base, Virtual}
 use Rattle.td_check.proofs.LentScopes.{in_declared, or_else}
-use Rattle.td_types.specs.Types.{Heading, same_name}
+use Rattle.td_types.specs.model.Types.{Heading, same_name}
 use Rattle.td_check.proofs.declared.Declared.relvar.Goals as goal
 
 pub returns-in-Some : goal.returns-in-Some

@@ -1,6 +1,6 @@
 use Rattle.std.proofs.Common.{◌∙◌, ap, option_map, sym}
 use Rattle.td_check.proofs.LentScopes.{taken_beyond, taken_nowhere, taken_within}
-use Rattle.td_types.specs.Types.{same_name}
+use Rattle.td_types.specs.model.Types.{same_name}
 use Rattle.td_check.proofs.declared.Declared.virtual_heading.Goals as goal
 
 pub returns-in_err-place : goal.returns-in_err-place

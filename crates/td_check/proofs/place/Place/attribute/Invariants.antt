@@ -1,5 +1,5 @@
 use Rattle.std.proofs.Common.{◌≡◌, ◌++◌, map, reverse}
-use Rattle.td_check.specs.Scopes.{innermost}
+use Rattle.td_check.specs.model.Scopes.{innermost}
 use Rattle.td_check.proofs.place.Place.attribute.Given as goal
 
 abbrev pub invariant-loop-heading : goal.invariant-loop-heading

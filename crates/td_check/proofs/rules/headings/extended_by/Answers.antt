@@ -1,6 +1,6 @@
 use Rattle.std.proofs.Common.{◌≡◌, ◌∙◌, ◌∷◌, ap, arith, length, sym}
 use Rattle.std.specs.Vec.Iter.{into_iter_items}
-use Rattle.td_check.specs.OperatorTypes.{extended_by}
+use Rattle.td_check.specs.model.OperatorTypes.{extended_by}
 use Rattle.td_types.specs.code.Views.{pairs_view, type_view}
 use Rattle.td_check.proofs.HeadingRules.{extended_more}
 use Rattle.td_check.proofs.rules.headings.extended_by.Goals as goal

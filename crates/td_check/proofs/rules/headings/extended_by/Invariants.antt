@@ -1,6 +1,6 @@
 use Rattle.std.proofs.Common.{◌≡◌, length}
 use Rattle.std.specs.Vec.Iter.{into_iter_items, into_iter_len}
-use Rattle.td_check.specs.OperatorTypes.{extended_by}
+use Rattle.td_check.specs.model.OperatorTypes.{extended_by}
 use Rattle.td_types.specs.code.Views.{pairs_view}
 use Rattle.td_check.proofs.rules.headings.extended_by.Given as goal
 

@@ -1,7 +1,7 @@
 use Rattle.std.proofs.Common.{◌≡◌, drop, map}
 use Rattle.std.specs.List.{list_all}
 use Rattle.std.specs.Prelude.{◌&&◌}
-use Rattle.td_types.specs.Headings.{are_distinct, has_attributes}
+use Rattle.td_types.specs.model.Headings.{are_distinct, has_attributes}
 use Rattle.td_check.proofs.rules.keys.are_of_attributes.Given as goal
 
 abbrev pub invariant-loop-key : goal.invariant-loop-key

@@ -1,7 +1,7 @@
 use Rattle.std.proofs.Common.{◌≡◌, drop, map}
 use Rattle.std.specs.List.{list_all}
 use Rattle.std.specs.Prelude.{◌||◌, not}
-use Rattle.td_check.specs.StatementTypes.{is_included}
+use Rattle.td_check.specs.model.StatementTypes.{is_included}
 use Rattle.td_check.proofs.rules.keys.is_apart.Given as goal
 
 abbrev pub invariant-loop-other : goal.invariant-loop-other

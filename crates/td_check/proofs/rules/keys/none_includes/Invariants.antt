@@ -1,5 +1,5 @@
 use Rattle.std.proofs.Common.{◌≡◌, length, map}
-use Rattle.td_check.specs.StatementTypes.{none_includes}
+use Rattle.td_check.specs.model.StatementTypes.{none_includes}
 use Rattle.td_check.proofs.rules.keys.none_includes.Given as goal
 
 abbrev pub invariant-loop-rest : goal.invariant-loop-rest

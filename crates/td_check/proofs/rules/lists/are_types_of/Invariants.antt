@@ -1,5 +1,5 @@
 use Rattle.std.proofs.Common.{◌≡◌, drop, map}
-use Rattle.td_check.specs.OperatorTypes.{are_types_of}
+use Rattle.td_check.specs.model.OperatorTypes.{are_types_of}
 use Rattle.td_types.specs.code.Views.{pairs_view, type_view}
 use Rattle.td_check.proofs.rules.lists.are_types_of.Given as goal
 

@@ -1,10 +1,10 @@
 use Rattle.std.proofs.Common.{map, refl, subst}
-use Rattle.td_check.specs.OperatorTypes.{element_type}
+use Rattle.td_check.specs.model.OperatorTypes.{element_type}
 use Rattle.td_check.proofs.GatheredAnswers.{answered_with, map_twice, test_gathered}
 use Rattle.td_check.proofs.rules.lists.headed_type.Goals as goal
-use Rattle.td_tree.specs.Gatherings.{IsGathered}
-use Rattle.td_tree.specs.Outcomes.{Valued}
-use Rattle.td_types.specs.Types.{pack, relation}
+use Rattle.td_tree.specs.code.Gatherings.{IsGathered}
+use Rattle.td_tree.specs.model.Outcomes.{Valued}
+use Rattle.td_types.specs.model.Types.{pack, relation}
 use Rattle.td_types.specs.code.Views.{type_view}
 use Rattle.std.proofs.lemmas.List.{take_all}
 

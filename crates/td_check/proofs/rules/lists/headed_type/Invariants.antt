@@ -1,6 +1,6 @@
 use Rattle.std.proofs.Common.{map, take}
-use Rattle.td_tree.specs.Gatherings.{IsGathered}
-use Rattle.td_check.specs.OperatorTypes.{element_type}
+use Rattle.td_tree.specs.code.Gatherings.{IsGathered}
+use Rattle.td_check.specs.model.OperatorTypes.{element_type}
 use Rattle.td_types.specs.code.Views.{type_view}
 use Rattle.td_check.proofs.rules.lists.headed_type.Given as goal
 

@@ -3,11 +3,11 @@ use Rattle.std.proofs.lemmas.Iterator.Adapters.{YieldsList-from_vec}
 use Rattle.std.proofs.lemmas.Iterator.Consumers.{YieldsList-end}
 use Rattle.std.proofs.lemmas.List.{map-id}
 use Rattle.td_tree.proofs.code_lemmas.Gatherings.{answers_gathered, collected_last}
-use Rattle.td_tree.specs.Gatherings.{IsGathered}
+use Rattle.td_tree.specs.code.Gatherings.{IsGathered}
 use Rattle.td_types.specs.code.Pairs.{pair_view}
 use Rattle.td_types.specs.code.Views.{pairs_view}
 use Rattle.td_check.specs.code.ItemViews.{named_item_view}
-use Rattle.td_check.specs.OperatorTypes.{item_type}
+use Rattle.td_check.specs.model.OperatorTypes.{item_type}
 use Rattle.td_check.proofs.GatheredAnswers.{map_twice}
 use Rattle.td_check.proofs.rules.lists.item_types.Goals as goal
 

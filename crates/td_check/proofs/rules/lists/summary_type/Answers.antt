@@ -1,12 +1,12 @@
 use Rattle.std.proofs.Common.{◌∙◌, ℕ, List, map, subst, sym}
 use Rattle.std.proofs.lemmas.Result.{err_from_is_err_and}
 use Rattle.td_check.specs.code.ItemViews.{items_view}
-use Rattle.td_check.specs.OperatorTypes.{extension_type, item_type}
+use Rattle.td_check.specs.model.OperatorTypes.{extension_type, item_type}
 use Rattle.td_check.proofs.BothAnswers.{both_given, both_refused}
 use Rattle.td_check.proofs.rules.lists.summary_type.Goals as goal
-use Rattle.td_tree.specs.Outcomes.{Answers, gathered}
+use Rattle.td_tree.specs.model.Outcomes.{Answers, gathered}
 use Rattle.std.specs.Global.{Vec}
-use Rattle.td_types.specs.Types.{Heading}
+use Rattle.td_types.specs.model.Types.{Heading}
 use Rattle.td_types.specs.declared.ty.Ty.{Ty}
 use Rattle.td_types.specs.code.Views.{pairs_view, type_view}
 

@@ -1,6 +1,6 @@
 use Rattle.std.proofs.Common.{◌≡◌, drop}
 use Rattle.std.specs.Rc.{rc_str_bytes}
-use Rattle.td_types.specs.Types.{type_at}
+use Rattle.td_types.specs.model.Types.{type_at}
 use Rattle.td_types.specs.code.Views.{pairs_view}
 use Rattle.td_check.proofs.rules.operand.component_named.Given as goal
 

@@ -1,5 +1,5 @@
 use Rattle.std.proofs.Common.{◌≡◌, ◌++◌, drop, map}
-use Rattle.td_check.specs.OperatorTypes.{renaming_pairs}
+use Rattle.td_check.specs.model.OperatorTypes.{renaming_pairs}
 use Rattle.td_tree.specs.code.TreeViews.{renaming_view}
 use Rattle.td_check.proofs.rules.postfix.renaming_pairs.Given as goal
 

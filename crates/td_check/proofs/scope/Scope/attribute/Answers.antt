@@ -1,5 +1,5 @@
 use Rattle.std.proofs.Common.{◌∙◌, ap, reverse, sym}
-use Rattle.td_check.specs.Scopes.{innermost}
+use Rattle.td_check.specs.model.Scopes.{innermost}
 use Rattle.td_check.proofs.Entered.{innermost_beyond, innermost_here, innermost_nowhere, last_is_innermost}
 use Rattle.td_check.proofs.scope.Scope.attribute.Goals as goal
 

@@ -1,5 +1,5 @@
 use Rattle.std.proofs.Common.{◌≡◌, reverse}
-use Rattle.td_check.specs.Scopes.{innermost}
+use Rattle.td_check.specs.model.Scopes.{innermost}
 use Rattle.td_check.proofs.scope.Scope.attribute.Given as goal
 
 abbrev pub invariant-loop-heading : goal.invariant-loop-heading

@@ -1,6 +1,6 @@
 use Rattle.std.proofs.Common.{◌∙◌, ap, option_map, sym}
 use Rattle.td_check.specs.code.ScopeCode.{known_view, lent_relvars, relvars_view, seen_view}
-use Rattle.td_check.specs.Scopes.{Scope, kind_and_heading, relvar_in}
+use Rattle.td_check.specs.model.Scopes.{Scope, kind_and_heading, relvar_in}
 use Rattle.td_check.proofs.LentScopes.{in_either, or_else}
 use Rattle.td_check.proofs.Scopes.{kept}
 use Rattle.td_check.proofs.scope.Scope.relvar.Goals as goal

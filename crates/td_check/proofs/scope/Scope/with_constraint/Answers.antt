@@ -2,11 +2,11 @@ use Rattle.std.proofs.Common.{◌≡◌, ◌∙◌, ◌∷◌, ◌++◌, [], ap,
 use Rattle.std.proofs.lemmas.List.{append_assoc}
 use Rattle.std.specs.Prelude.{not, reverse}
 use Rattle.td_check.specs.code.ScopeCode.{lent_constraints, lent_relvars, relvars_view}
-use Rattle.td_check.specs.Scopes.{Scope, knows_constraint, with_known_constraint}
+use Rattle.td_check.specs.model.Scopes.{Scope, knows_constraint, with_known_constraint}
 use Rattle.td_check.proofs.LentScopes.{unnamed_behind}
 use Rattle.td_check.proofs.Scopes.{name_added}
 use Rattle.td_check.proofs.scope.Scope.with_constraint.Goals as goal
-use Rattle.td_types.specs.Headings.{has_name}
+use Rattle.td_types.specs.model.Headings.{has_name}
 
 pub returns : goal.returns
 returns c =

@@ -2,7 +2,7 @@ use Rattle.std.proofs.Common.{◌≡◌, ◌∙◌, ◌∷◌, ◌++◌, [], ap,
 use Rattle.std.proofs.lemmas.List.{append_assoc}
 use Rattle.std.specs.Prelude.{is_some, not, reverse}
 use Rattle.td_check.specs.code.ScopeCode.{known_relvar_view, lent_constraints, lent_relvars, relvars_view}
-use Rattle.td_check.specs.Scopes.{Scope, relvar_in, with_known_relvar}
+use Rattle.td_check.specs.model.Scopes.{Scope, relvar_in, with_known_relvar}
 use Rattle.td_check.proofs.LentScopes.{none_behind}
 use Rattle.td_check.proofs.Scopes.{relvar_added}
 use Rattle.td_check.proofs.scope.Scope.with_relvar.Goals as goal

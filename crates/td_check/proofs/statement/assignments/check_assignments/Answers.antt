@@ -1,4 +1,4 @@
-use Rattle.td_check.specs.StatementTypes.{assignment_checked}
+use Rattle.td_check.specs.model.StatementTypes.{assignment_checked}
 use Rattle.td_check.proofs.StatementAnswers.{asked_more, viewed_all}
 use Rattle.td_tree.specs.code.TreeViews.{assignment_view}
 use Rattle.td_check.proofs.statement.assignments.check_assignments.Goals as goal

@@ -1,7 +1,7 @@
 use Rattle.std.proofs.Common.{map, take}
-use Rattle.td_check.specs.StatementTypes.{assignment_checked}
+use Rattle.td_check.specs.model.StatementTypes.{assignment_checked}
 use Rattle.td_check.proofs.StatementAnswers.{asked_of}
-use Rattle.td_tree.specs.Gatherings.{IsGathered}
+use Rattle.td_tree.specs.code.Gatherings.{IsGathered}
 use Rattle.td_tree.specs.code.TreeViews.{assignment_view}
 use Rattle.td_check.proofs.statement.assignments.check_assignments.Given as goal
 

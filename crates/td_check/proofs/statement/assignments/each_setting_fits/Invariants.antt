@@ -1,7 +1,7 @@
 use Rattle.std.proofs.Common.{map, take}
-use Rattle.td_check.specs.StatementTypes.{setting_fits}
+use Rattle.td_check.specs.model.StatementTypes.{setting_fits}
 use Rattle.td_check.proofs.StatementAnswers.{asked_of}
-use Rattle.td_tree.specs.Gatherings.{IsGathered}
+use Rattle.td_tree.specs.code.Gatherings.{IsGathered}
 use Rattle.td_types.specs.code.Pairs.{pair_view}
 use Rattle.td_check.proofs.statement.assignments.each_setting_fits.Given as goal
 

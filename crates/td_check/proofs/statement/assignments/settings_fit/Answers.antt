@@ -1,9 +1,9 @@
 use Rattle.std.proofs.Common.{◌≡◌, ◌∙◌, ap, map, subst, sym}
 use Rattle.std.specs.Prelude.{Bool, ⊤}
 use Rattle.td_tree.specs.declared.cause.Cause.TheVariants as causes
-use Rattle.td_tree.specs.Outcomes.{Answers, value_if}
-use Rattle.td_types.specs.Headings.{are_distinct}
-use Rattle.td_types.specs.Types.{attribute_names}
+use Rattle.td_tree.specs.model.Outcomes.{Answers, value_if}
+use Rattle.td_types.specs.model.Headings.{are_distinct}
+use Rattle.td_types.specs.model.Types.{attribute_names}
 use Rattle.td_types.specs.code.Views.{pairs_view}
 use Rattle.td_types.proofs.Made.{names_of_pairs}
 use Rattle.td_check.proofs.statement.assignments.settings_fit.Goals as goal

@@ -2,10 +2,10 @@ use Rattle.std.proofs.Common.{◌∙◌, ℕ, List, Err, ap, option_map, subst, 
 use Rattle.std.proofs.lemmas.Result.{err_from_is_err_and}
 use Rattle.std.specs.Global.{Vec}
 use Rattle.std.specs.Prelude.{Option, ⊤}
-use Rattle.td_check.specs.StatementTypes.{condition_fits}
+use Rattle.td_check.specs.model.StatementTypes.{condition_fits}
 use Rattle.td_check.proofs.StatementAnswers.{given_is, parts_answer, parts_have, update_asked}
-use Rattle.td_tree.specs.Outcomes.{Answers}
-use Rattle.td_types.specs.Types.{Type'}
+use Rattle.td_tree.specs.model.Outcomes.{Answers}
+use Rattle.td_types.specs.model.Types.{Type'}
 use Rattle.td_types.specs.code.Views.{pairs_view, type_view}
 use Rattle.td_types.specs.declared.ty.Ty.{Ty}
 use Rattle.td_check.proofs.statement.assignments.update_fits.Goals as goal

@@ -1,9 +1,9 @@
 use Rattle.std.proofs.Common.{subst}
 use Rattle.std.specs.Prelude.{Option, ⊤}
 use Rattle.td_check.proofs.StatementAnswers.{given_is}
-use Rattle.td_check.specs.StatementTypes.{init_fits}
-use Rattle.td_tree.specs.Outcomes.{Answers}
-use Rattle.td_types.specs.Types.{Type'}
+use Rattle.td_check.specs.model.StatementTypes.{init_fits}
+use Rattle.td_tree.specs.model.Outcomes.{Answers}
+use Rattle.td_types.specs.model.Types.{Type'}
 use Rattle.td_types.specs.code.Views.{type_view}
 use Rattle.td_check.proofs.statement.definitions.base_fits.Goals as goal
 

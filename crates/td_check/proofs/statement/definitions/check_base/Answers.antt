@@ -2,7 +2,7 @@ use Rattle.std.proofs.Common.{◌∙◌, Err, ap, map, option_map, sym}
 use Rattle.std.proofs.lemmas.Result.{err_from_is_err_and}
 use Rattle.std.specs.Prelude.{⊤}
 use Rattle.td_check.proofs.StatementAnswers.{base_asked, init_answers, parts_answer, parts_have}
-use Rattle.td_types.specs.Types.{Heading}
+use Rattle.td_types.specs.model.Types.{Heading}
 use Rattle.td_types.specs.code.Views.{type_view}
 use Rattle.td_check.proofs.statement.definitions.check_base.Goals as goal
 

@@ -3,9 +3,9 @@ use Rattle.std.proofs.lemmas.Result.{err_from_is_err_and}
 use Rattle.std.specs.Global.{Vec}
 use Rattle.std.specs.Prelude.{Option, ⊤}
 use Rattle.td_check.proofs.StatementAnswers.{component_twice, components_had, components_refused, given_is, parts_asked}
-use Rattle.td_check.specs.StatementTypes.{constraint_fits}
-use Rattle.td_tree.specs.Outcomes.{Answers}
-use Rattle.td_tree.specs.Trees.{Tree}
+use Rattle.td_check.specs.model.StatementTypes.{constraint_fits}
+use Rattle.td_tree.specs.model.Outcomes.{Answers}
+use Rattle.td_tree.specs.model.Trees.{Tree}
 use Rattle.td_tree.specs.code.TreeViews.{heading_tree_view, tree_view}
 use Rattle.td_types.specs.code.Views.{pairs_view}
 use Rattle.td_types.specs.declared.ty.Ty.{Ty}

@@ -1,9 +1,9 @@
 use Rattle.std.proofs.Common.{subst, sym}
 use Rattle.std.specs.Prelude.{map, ⊤}
-use Rattle.td_check.specs.StatementTypes.{both_hold, heading_rank_fits, keys_asked}
-use Rattle.td_tree.specs.Outcomes.{Answers}
+use Rattle.td_check.specs.model.StatementTypes.{both_hold, heading_rank_fits, keys_asked}
+use Rattle.td_tree.specs.model.Outcomes.{Answers}
 use Rattle.td_types.specs.code.TypeCode.{unpack_pack}
-use Rattle.td_types.specs.Types.{Heading}
+use Rattle.td_types.specs.model.Types.{Heading}
 use Rattle.td_check.proofs.statement.definitions.virtual_fits.Goals as goal
 
 pub returns-in-Rel : goal.returns-in-Rel

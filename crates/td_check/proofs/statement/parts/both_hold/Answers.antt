@@ -2,7 +2,7 @@ use Rattle.std.proofs.Common.{◌∙◌, Err, ap, sym}
 use Rattle.std.proofs.lemmas.Result.{err_from_is_err_and}
 use Rattle.std.specs.Prelude.{⊤}
 use Rattle.td_check.proofs.StatementAnswers.{parts_answer}
-use Rattle.td_tree.specs.Outcomes.{Valued}
+use Rattle.td_tree.specs.model.Outcomes.{Valued}
 use Rattle.td_check.proofs.statement.parts.both_hold.Goals as goal
 
 pub returns-in_err-both : goal.returns-in_err-both

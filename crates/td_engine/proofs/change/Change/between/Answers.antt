@@ -1,10 +1,10 @@
 use Rattle.std.proofs.Common.{◌∙◌, ap, subst, sym}
 use Rattle.td_algebra.proofs.Relations.{IsRelation-view}
-use Rattle.td_algebra.specs.Operators.{difference}
+use Rattle.td_algebra.specs.model.Operators.{difference}
 use Rattle.td_body.proofs.Differences.{led_over}
-use Rattle.td_body.specs.Bodies.{after_change}
-use Rattle.td_types.specs.Types.{Heading, IsHeading, pack}
-use Rattle.td_value.specs.Values.{IsRelation}
+use Rattle.td_body.specs.model.Bodies.{after_change}
+use Rattle.td_types.specs.model.Types.{Heading, IsHeading, pack}
+use Rattle.td_value.specs.model.Values.{IsRelation}
 use Rattle.td_engine.proofs.change.Change.between.Goals as goal
 
 pub returns-clause-after : goal.returns-clause-after

@@ -2,10 +2,10 @@ use Rattle.std.proofs.Common.{List, subst, sym}
 use Rattle.td_engine.proofs.law_lemmas.Answered.{parsed_step, refused_does}
 use Rattle.td_engine.proofs.code_lemmas.Turning.{ok_map}
 use Rattle.td_engine.specs.code.Carried.{IsRefusedBy}
-use Rattle.td_engine.specs.Machine.{State, effect_in, step_of, step_of_outcome}
+use Rattle.td_engine.specs.model.Machine.{State, effect_in, step_of, step_of_outcome}
 use Rattle.td_engine.specs.code.Steps.{Does, IsParsed, IsStep}
-use Rattle.td_tree.specs.Outcomes.{Answers}
-use Rattle.td_tree.specs.Statements.{PlacedToken}
+use Rattle.td_tree.specs.model.Outcomes.{Answers}
+use Rattle.td_tree.specs.model.Statements.{PlacedToken}
 use Rattle.td_tree.specs.code.TreeViews.{statement_view}
 use Rattle.td_engine.proofs.engine.Engine.carry_out.Goals as goal
 

@@ -2,8 +2,8 @@ use Rattle.std.proofs.Common.{◌≡◌, ◌∙◌, ap, map, reverse, subst, sym
 use Rattle.td_engine.proofs.law_lemmas.Answered.{database_does}
 use Rattle.td_engine.proofs.code_lemmas.Opens.{engine_on, engine_settled, settled_state, state_on}
 use Rattle.td_engine.proofs.code_lemmas.Turning.{ok_map}
-use Rattle.td_engine.specs.Legality.{IsLegalState}
-use Rattle.td_engine.specs.Machine.{State, effect, effect_in, state_of, step_of}
+use Rattle.td_engine.specs.model.Legality.{IsLegalState}
+use Rattle.td_engine.specs.model.Machine.{State, effect, effect_in, state_of, step_of}
 use Rattle.td_engine.specs.code.Stages.{IsEngine, kept_for, stage, state_at}
 use Rattle.td_engine.specs.code.Steps.{Does}
 use Rattle.td_tree.specs.code.TreeViews.{statement_view}

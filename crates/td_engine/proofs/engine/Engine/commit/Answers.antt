@@ -2,8 +2,8 @@ use Rattle.std.proofs.Common.{◌≡◌, ◌∙◌, ◌∷◌, [], ap, map, reve
 use Rattle.std.proofs.lemmas.List.{reverse-append}
 use Rattle.td_engine.proofs.code_lemmas.Opens.{engine_committed, engine_settled, settled_state}
 use Rattle.td_engine.proofs.law_lemmas.Transactions.{commit_does}
-use Rattle.td_engine.specs.Legality.{IsLegalState}
-use Rattle.td_engine.specs.Machine.{State, committed_transaction, state_of, step_of}
+use Rattle.td_engine.specs.model.Legality.{IsLegalState}
+use Rattle.td_engine.specs.model.Machine.{State, committed_transaction, state_of, step_of}
 use Rattle.td_engine.specs.code.Stages.{IsEngine, kept_for, stage, state_at}
 use Rattle.td_engine.specs.code.Steps.{Does}
 use Rattle.td_engine.proofs.engine.Engine.commit.Goals as goal

@@ -1,8 +1,8 @@
 use Rattle.std.proofs.Common.{◌∙◌, ap, subst, sym}
-use Rattle.td_catalog.specs.KeptDatabases.{CatalogView}
+use Rattle.td_catalog.specs.code.KeptDatabases.{CatalogView}
 use Rattle.td_engine.proofs.law_lemmas.DumpLaws.{text_rebuilds}
-use Rattle.td_engine.specs.Machine.{State}
-use Rattle.td_engine.specs.Legality.{IsLegal}
+use Rattle.td_engine.specs.model.Machine.{State}
+use Rattle.td_engine.specs.model.Legality.{IsLegal}
 use Rattle.td_engine.proofs.engine.Engine.dump.Goals as goal
 
 pub returns-clause-rebuilds : goal.returns-clause-rebuilds

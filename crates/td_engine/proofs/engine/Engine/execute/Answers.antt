@@ -1,6 +1,6 @@
 use Rattle.std.proofs.Common.{sym, subst}
 use Rattle.td_engine.proofs.code_lemmas.Turning.{ok_map}
-use Rattle.td_engine.specs.Machine.{effect_in, step_of}
+use Rattle.td_engine.specs.model.Machine.{effect_in, step_of}
 use Rattle.td_engine.specs.code.Steps.{Does}
 use Rattle.td_engine.specs.code.Transactions.{transaction_view}
 use Rattle.td_tree.specs.code.TreeViews.{statement_view}

@@ -1,5 +1,5 @@
 use Rattle.std.proofs.Common.{ap, reverse}
-use Rattle.td_catalog.specs.KeptDatabases.{CatalogView}
+use Rattle.td_catalog.specs.code.KeptDatabases.{CatalogView}
 use Rattle.td_engine.proofs.code_lemmas.Opens.{engine_new}
 use Rattle.td_engine.proofs.engine.Engine.new.Goals as goal
 

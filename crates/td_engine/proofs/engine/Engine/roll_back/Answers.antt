@@ -2,8 +2,8 @@ use Rattle.std.proofs.Common.{◌≡◌, ◌∙◌, ◌∷◌, [], ap, map, reve
 use Rattle.std.proofs.lemmas.List.{reverse-append}
 use Rattle.td_engine.proofs.code_lemmas.Opens.{engine_back, engine_settled, settled_state, state_back}
 use Rattle.td_engine.proofs.law_lemmas.Transactions.{rollback_does}
-use Rattle.td_engine.specs.Legality.{IsLegalState}
-use Rattle.td_engine.specs.Machine.{State, rolled_back, step_of}
+use Rattle.td_engine.specs.model.Legality.{IsLegalState}
+use Rattle.td_engine.specs.model.Machine.{State, rolled_back, step_of}
 use Rattle.td_engine.specs.code.Stages.{IsEngine, kept_for, stage, state_at}
 use Rattle.td_engine.specs.code.Steps.{Does}
 use Rattle.td_engine.proofs.engine.Engine.roll_back.Goals as goal

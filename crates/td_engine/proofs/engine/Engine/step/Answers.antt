@@ -3,7 +3,7 @@ use Rattle.td_engine.proofs.law_lemmas.Answered.{parsed_spelled}
 use Rattle.td_engine.proofs.code_lemmas.Turning.{ok_map}
 use Rattle.td_engine.proofs.engine.Engine.step.Goals as goal
 use Rattle.td_engine.specs.code.Steps.{IsParsed, IsStep}
-use Rattle.td_tree.specs.Statements.{PlacedToken}
+use Rattle.td_tree.specs.model.Statements.{PlacedToken}
 
 pub carry_out-requires : goal.carry_out-requires
 carry_out-requires g c = parsed_spelled c.args.tokens.now c.parse_statement.result c.parse_statement.ensures

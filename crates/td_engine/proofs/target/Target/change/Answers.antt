@@ -1,9 +1,9 @@
 use Rattle.std.proofs.Common.{◌∙◌, option_map, subst, sym, ap}
 use Rattle.td_check.proofs.StatementAnswers.{given_is}
-use Rattle.td_engine.specs.Assignments.{target_of}
+use Rattle.td_engine.specs.model.Assignments.{target_of}
 use Rattle.td_engine.specs.code.Targets.{GivesAs}
 use Rattle.td_tree.specs.code.TreeViews.{assignment_view, named_view, tree_view}
-use Rattle.td_tree.specs.Trees as trees
+use Rattle.td_tree.specs.model.Trees as trees
 use Rattle.td_engine.proofs.target.Target.change.Goals as goal
 
 pub returns-in-Update-clause-answer : goal.returns-in-Update-clause-answer

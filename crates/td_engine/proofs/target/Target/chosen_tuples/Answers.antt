@@ -3,11 +3,11 @@ use Rattle.td_engine.proofs.code_lemmas.Environments.{valued_there}
 use Rattle.td_engine.proofs.code_lemmas.TargetChanges.{target_headed}
 use Rattle.td_engine.specs.code.Plannable.{IsPlannableConditionIf}
 use Rattle.td_engine.specs.code.Targets.{chosen_of, so_far, world_for}
-use Rattle.td_eval.specs.TreeValues.{value_of}
-use Rattle.td_tree.specs.Outcomes.{Answers}
+use Rattle.td_eval.specs.model.TreeValues.{value_of}
+use Rattle.td_tree.specs.model.Outcomes.{Answers}
 use Rattle.td_tree.specs.code.TreeViews.{tree_view}
-use Rattle.td_tree.specs.Trees.{name, restriction}
-use Rattle.td_value.specs.Values.{Relation}
+use Rattle.td_tree.specs.model.Trees.{name, restriction}
+use Rattle.td_value.specs.model.Values.{Relation}
 use Rattle.td_engine.proofs.target.Target.chosen_tuples.Goals as goal
 
 pub returns-clause-answer : goal.returns-clause-answer

@@ -1,17 +1,17 @@
 use Rattle.std.proofs.Common.{◌≡◌, ◌∙◌, ap, false, sym, true}
 use Rattle.std.proofs.lemmas.Result.{err_from_is_err_and}
-use Rattle.td_algebra.specs.Operators.{is_disjoint}
+use Rattle.td_algebra.specs.model.Operators.{is_disjoint}
 use Rattle.td_engine.proofs.code_lemmas.TestedChanges.{not_apart, other_way, put_apart}
 use Rattle.td_engine.proofs.law_lemmas.Admitted.{refused_on}
 use Rattle.td_engine.proofs.law_lemmas.Sources.{put_apart_is}
-use Rattle.td_engine.specs.Assignments.{relation_for}
-use Rattle.td_engine.specs.Changes.{changed_by}
+use Rattle.td_engine.specs.model.Assignments.{relation_for}
+use Rattle.td_engine.specs.code.Changes.{changed_by}
 use Rattle.td_engine.specs.code.Targets.{so_far, world_for}
 use Rattle.td_engine.specs.declared.change.Change.{Change}
-use Rattle.td_eval.specs.OperatorValues.{disjoint_union}
-use Rattle.td_tree.specs.Outcomes.{named_cause}
+use Rattle.td_eval.specs.model.OperatorValues.{disjoint_union}
+use Rattle.td_tree.specs.model.Outcomes.{named_cause}
 use Rattle.td_tree.specs.code.TreeViews.{tree_view}
-use Rattle.td_value.specs.Values.{Relation}
+use Rattle.td_value.specs.model.Values.{Relation}
 use Rattle.td_engine.proofs.target.Target.disjoint_insert.Goals as goal
 
 pub returns-in_err-add-clause-answer : goal.returns-in_err-add-clause-answer

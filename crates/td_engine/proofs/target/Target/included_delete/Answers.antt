@@ -1,17 +1,17 @@
 use Rattle.std.proofs.Common.{◌≡◌, ◌∙◌, ap, false, sym, true}
 use Rattle.std.proofs.lemmas.Result.{err_from_is_err_and}
-use Rattle.td_algebra.specs.Operators.{is_subset}
+use Rattle.td_algebra.specs.model.Operators.{is_subset}
 use Rattle.td_engine.proofs.code_lemmas.TestedChanges.{not_within, taken_out}
 use Rattle.td_engine.proofs.law_lemmas.Admitted.{refused_on}
 use Rattle.td_engine.proofs.law_lemmas.Sources.{taken_out_is}
-use Rattle.td_engine.specs.Assignments.{relation_for}
-use Rattle.td_engine.specs.Changes.{changed_by}
+use Rattle.td_engine.specs.model.Assignments.{relation_for}
+use Rattle.td_engine.specs.code.Changes.{changed_by}
 use Rattle.td_engine.specs.code.Targets.{so_far, world_for}
 use Rattle.td_engine.specs.declared.change.Change.{Change}
-use Rattle.td_eval.specs.OperatorValues.{included_difference}
-use Rattle.td_tree.specs.Outcomes.{named_cause}
+use Rattle.td_eval.specs.model.OperatorValues.{included_difference}
+use Rattle.td_tree.specs.model.Outcomes.{named_cause}
 use Rattle.td_tree.specs.code.TreeViews.{tree_view}
-use Rattle.td_value.specs.Values.{Relation}
+use Rattle.td_value.specs.model.Values.{Relation}
 use Rattle.td_engine.proofs.target.Target.included_delete.Goals as goal
 
 pub returns-in_err-out-clause-answer : goal.returns-in_err-out-clause-answer
@@ -31,7 +31,7 @@ returns-in_ok-taking-clause-answer g c =
     let out = c.in_ok-out.out in
     let within : is_subset out r ≡ true = sym c.are_members.ensures ∙ c.if-are_members.true in
     taken_out_is t.catalog.now.database t.name.now r x
-    ∙ taken_out r out (relation_for r (world_for g.B.Body.relation t) x) c.in_ok-out.ensures.answer c.in_ok-taking.field-0 c.requires.target.gift.relation within
+    ∙ taken_out r out (relation_for r (world_for g.B.Body.relation t) x) c.in_ok-out.ensures.answer c.in_ok-taking.field-0 c.requires.target.assigned.relation within
     c.in_ok-taking.ensures.out c.in_ok-taking.ensures.add
 
 pub returns-else-are_members-clause-answer : goal.returns-else-are_members-clause-answer

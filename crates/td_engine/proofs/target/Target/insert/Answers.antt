@@ -2,14 +2,14 @@ use Rattle.std.proofs.lemmas.Result.{err_from_is_err_and}
 use Rattle.td_engine.proofs.law_lemmas.Admitted.{refused_on}
 use Rattle.td_engine.proofs.code_lemmas.TargetChanges.{inserted}
 use Rattle.td_engine.proofs.law_lemmas.Sources.{inserted_is}
-use Rattle.td_algebra.specs.Operators.{union}
-use Rattle.td_engine.specs.Assignments.{relation_for}
-use Rattle.td_engine.specs.Changes.{changed_by}
+use Rattle.td_algebra.specs.model.Operators.{union}
+use Rattle.td_engine.specs.model.Assignments.{relation_for}
+use Rattle.td_engine.specs.code.Changes.{changed_by}
 use Rattle.td_engine.specs.code.Targets.{so_far, world_for}
 use Rattle.td_engine.specs.declared.change.Change.{Change}
-use Rattle.td_tree.specs.Outcomes.{Valued}
+use Rattle.td_tree.specs.model.Outcomes.{Valued}
 use Rattle.td_tree.specs.code.TreeViews.{tree_view}
-use Rattle.td_value.specs.Values.{Relation}
+use Rattle.td_value.specs.model.Values.{Relation}
 use Rattle.td_engine.proofs.target.Target.insert.Goals as goal
 
 pub returns-in_err-add-clause-answer : goal.returns-in_err-add-clause-answer

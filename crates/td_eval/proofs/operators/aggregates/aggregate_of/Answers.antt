@@ -2,8 +2,8 @@ use Rattle.std.proofs.Common.{◌≡◌, ◌∙◌, rules, sym, tests}
 use Rattle.std.proofs.lemmas.Iterator.{YieldsList-from_slice}
 use Rattle.std.proofs.lemmas.Iterator.Search.{all_from_yields_List}
 use Rattle.td_eval.proofs.code_lemmas.WalkedTotals.{aggregate_given}
-use Rattle.td_eval.specs.AggregateValues.{takes}
-use Rattle.td_value.specs.Values.{Val}
+use Rattle.td_eval.specs.model.AggregateValues.{takes}
+use Rattle.td_value.specs.model.Values.{Val}
 use Rattle.td_eval.proofs.operators.aggregates.aggregate_of.Goals as goal
 
 pub returns-then-all : goal.returns-then-all

@@ -1,8 +1,8 @@
 use Rattle.std.proofs.Common.{◌∙◌, sym}
 use Rattle.std.proofs.lemmas.Result.{err_from_is_err_and}
 use Rattle.td_check.proofs.BothAnswers.{both_refused}
-use Rattle.td_eval.specs.OperatorValues.{operator_value}
-use Rattle.td_value.specs.Values.{Val}
+use Rattle.td_eval.specs.model.OperatorValues.{operator_value}
+use Rattle.td_value.specs.model.Values.{Val}
 use Rattle.td_eval.proofs.operators.between.value_of_operator.Goals as goal
 
 pub returns-in_err-first : goal.returns-in_err-first

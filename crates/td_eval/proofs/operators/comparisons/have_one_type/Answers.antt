@@ -1,7 +1,7 @@
 use Rattle.std.proofs.Common.{◌≡◌, subst}
 use Rattle.std.specs.Prelude.{◌↔◌, IsTrue}
 use Rattle.td_eval.proofs.code_lemmas.OpComparisons.{type_test}
-use Rattle.td_value.specs.Values.{type_of}
+use Rattle.td_value.specs.model.Values.{type_of}
 use Rattle.td_eval.proofs.operators.comparisons.have_one_type.Goals as goal
 
 pub returns : goal.returns

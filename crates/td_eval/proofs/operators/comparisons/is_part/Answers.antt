@@ -1,5 +1,5 @@
 use Rattle.std.proofs.Common.{rules}
-use Rattle.td_types.specs.TypeOrder.{heading_eq-Decides}
+use Rattle.td_types.specs.code.TypeOrder.{heading_eq-Decides}
 use Rattle.td_eval.proofs.operators.comparisons.is_part.Goals as goal
 
 pub subset-requires : goal.subset-requires

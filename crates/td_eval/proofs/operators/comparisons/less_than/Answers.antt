@@ -1,6 +1,6 @@
 use Rattle.std.proofs.Common.{Bool}
-use Rattle.td_value.specs.Values.{Val}
-use Rattle.td_eval.specs.OperatorValues.{at_most}
+use Rattle.td_value.specs.model.Values.{Val}
+use Rattle.td_eval.specs.model.OperatorValues.{at_most}
 use Rattle.std.proofs.lemmas.Result.{err_from_is_err_and}
 use Rattle.td_eval.proofs.code_lemmas.OpValues.{refused_then}
 use Rattle.td_eval.proofs.operators.comparisons.less_than.Goals as goal

@@ -1,6 +1,6 @@
 use Rattle.td_eval.proofs.code_lemmas.OpComparisons.{first_unlike, relations_unlike, second_unlike}
-use Rattle.td_types.specs.Types.{pack}
-use Rattle.td_value.specs.Values.{type_of}
+use Rattle.td_types.specs.model.Types.{pack}
+use Rattle.td_value.specs.model.Values.{type_of}
 use Rattle.td_eval.proofs.operators.comparisons.unlike.Goals as goal
 
 pub returns-in-Rel-Rel : goal.returns-in-Rel-Rel

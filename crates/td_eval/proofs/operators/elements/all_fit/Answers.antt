@@ -2,7 +2,7 @@ use Rattle.std.proofs.Common.{Err, ◌∙◌, subst, sym}
 use Rattle.std.proofs.lemmas.Result.{err_from_is_err_and}
 use Rattle.std.specs.Prelude.{⊤}
 use Rattle.td_eval.proofs.code_lemmas.FittingTuples.{misfit, one_more_fits}
-use Rattle.td_tree.specs.Outcomes.{Answers, value_if}
+use Rattle.td_tree.specs.model.Outcomes.{Answers, value_if}
 use Rattle.td_tree.specs.declared.cause.Cause.TheVariants as causes
 use Rattle.td_eval.proofs.operators.elements.all_fit.Goals as goal
 

@@ -1,8 +1,8 @@
 use Rattle.std.proofs.Common.{◌≡◌, map, take}
 use Rattle.std.specs.List.{All}
 use Rattle.td_eval.proofs.code_lemmas.FittingTuples.{fitted}
-use Rattle.td_tree.specs.Outcomes.{Valued, gathered}
-use Rattle.td_value.specs.Values.{IsTupleOf}
+use Rattle.td_tree.specs.model.Outcomes.{Valued, gathered}
+use Rattle.td_value.specs.model.Values.{IsTupleOf}
 use Rattle.td_eval.proofs.operators.elements.all_fit.Given as goal
 
 abbrev pub invariant-loop-tuple : goal.invariant-loop-tuple

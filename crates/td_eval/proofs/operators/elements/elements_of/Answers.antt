@@ -2,10 +2,10 @@ use Rattle.std.proofs.Common.{map, subst}
 use Rattle.std.proofs.lemmas.List.{take_all}
 use Rattle.std.specs.List.{All}
 use Rattle.td_eval.proofs.code_lemmas.OpElements.{elements_answered, elements_hold}
-use Rattle.td_eval.specs.OperatorValues.{element_of}
+use Rattle.td_eval.specs.model.OperatorValues.{element_of}
 use Rattle.td_tree.proofs.code_lemmas.Gatherings.{collected_next, collected_hold}
-use Rattle.td_tree.specs.Gatherings.{IsGathered}
-use Rattle.td_value.specs.Values.{IsTupleOf}
+use Rattle.td_tree.specs.code.Gatherings.{IsGathered}
+use Rattle.td_value.specs.model.Values.{IsTupleOf}
 use Rattle.td_eval.proofs.operators.elements.elements_of.Goals as goal
 
 pub loop-element-preserved : goal.loop-element-preserved

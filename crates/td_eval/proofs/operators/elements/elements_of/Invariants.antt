@@ -1,8 +1,8 @@
 use Rattle.std.proofs.Common.{map, take}
 use Rattle.std.specs.List.{All}
-use Rattle.td_eval.specs.OperatorValues.{element_of}
-use Rattle.td_tree.specs.Gatherings.{IsGathered}
-use Rattle.td_value.specs.Values.{IsTupleOf}
+use Rattle.td_eval.specs.model.OperatorValues.{element_of}
+use Rattle.td_tree.specs.code.Gatherings.{IsGathered}
+use Rattle.td_value.specs.model.Values.{IsTupleOf}
 use Rattle.td_eval.proofs.operators.elements.elements_of.Given as goal
 
 abbrev pub invariant-loop-element : goal.invariant-loop-element

@@ -3,10 +3,10 @@ use Rattle.std.proofs.lemmas.Result.{err_from_is_err_and}
 use Rattle.std.specs.Prelude.{⊤}
 use Rattle.td_eval.proofs.code_lemmas.FittingTuples.{fitted, fitted_twice}
 use Rattle.td_eval.proofs.code_lemmas.OpElements.{headed_of}
-use Rattle.td_eval.specs.OperatorValues.{of_relation}
-use Rattle.td_tree.specs.Outcomes.{Valued, gathered}
+use Rattle.td_eval.specs.model.OperatorValues.{of_relation}
+use Rattle.td_tree.specs.model.Outcomes.{Valued, gathered}
 use Rattle.td_types.proofs.Resolutions.{answers_still}
-use Rattle.td_value.specs.Values.{Val, relation_of, tuple_value}
+use Rattle.td_value.specs.model.Values.{Val, relation_of, tuple_value}
 use Rattle.td_eval.proofs.operators.elements.headed_tuples.Goals as goal
 
 pub returns-in_err-all_fit : goal.returns-in_err-all_fit

@@ -1,5 +1,5 @@
 use Rattle.td_eval.proofs.code_lemmas.OpElements.{headed_of}
-use Rattle.td_value.specs.Values.{relation_of}
+use Rattle.td_value.specs.model.Values.{relation_of}
 use Rattle.td_eval.proofs.operators.elements.headed_value.Goals as goal
 
 pub returns : goal.returns

@@ -1,9 +1,9 @@
 use Rattle.std.proofs.Common.{◌∙◌, ap, map, subst}
 use Rattle.std.specs.List.{slice_get}
 use Rattle.td_eval.proofs.code_lemmas.FittingTuples.{listed_by}
-use Rattle.td_eval.specs.OperatorValues.{headed_value}
-use Rattle.td_tree.specs.Outcomes.{Answers}
-use Rattle.td_value.specs.Values.{Val, tuple_value}
+use Rattle.td_eval.specs.model.OperatorValues.{headed_value}
+use Rattle.td_tree.specs.model.Outcomes.{Answers}
+use Rattle.td_value.specs.model.Values.{Val, tuple_value}
 use Rattle.td_eval.proofs.operators.elements.listed_tuples.Goals as goal
 
 pub returns-in_ok-heading-in-Some : goal.returns-in_ok-heading-in-Some

@@ -2,10 +2,10 @@ use Rattle.std.proofs.Common.{◌∙◌, subst, sym}
 use Rattle.std.proofs.lemmas.Result.{err_from_is_err_and}
 use Rattle.std.specs.Global.{Vec}
 use Rattle.td_check.proofs.BothAnswers.{both_given, both_refused}
-use Rattle.td_eval.specs.OperatorValues.{headed_value}
-use Rattle.td_tree.specs.Outcomes.{Answers}
-use Rattle.td_types.specs.Types.{Heading}
-use Rattle.td_value.specs.Values.{Val}
+use Rattle.td_eval.specs.model.OperatorValues.{headed_value}
+use Rattle.td_tree.specs.model.Outcomes.{Answers}
+use Rattle.td_types.specs.model.Types.{Heading}
+use Rattle.td_value.specs.model.Values.{Val}
 use Rattle.td_eval.proofs.operators.elements.value_of_headed.Goals as goal
 
 pub returns-in_err-heading : goal.returns-in_err-heading

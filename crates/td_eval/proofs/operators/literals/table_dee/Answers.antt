@@ -1,8 +1,8 @@
 use Rattle.std.proofs.Common.{◌≡◌, ◌∙◌, ◌∷◌, ◌++◌, [], subst, sym}
 use Rattle.td_eval.proofs.code_lemmas.OpElements.{made_of}
-use Rattle.td_tree.specs.Outcomes.{Valued}
+use Rattle.td_tree.specs.model.Outcomes.{Valued}
 use Rattle.td_types.proofs.OutcomeLaws.{valued_is}
-use Rattle.td_value.specs.Values.{made_tuple, relation_of}
+use Rattle.td_value.specs.model.Values.{made_tuple, relation_of}
 use Rattle.td_eval.proofs.operators.literals.table_dee.Goals as goal
 
 pub returns : goal.returns

@@ -1,6 +1,6 @@
 use Rattle.std.proofs.Common.{[]}
 use Rattle.td_eval.proofs.code_lemmas.OpElements.{made_of}
-use Rattle.td_value.specs.Values.{relation_of}
+use Rattle.td_value.specs.model.Values.{relation_of}
 use Rattle.td_eval.proofs.operators.literals.table_dum.Goals as goal
 
 pub returns : goal.returns

@@ -1,8 +1,8 @@
 use Rattle.std.proofs.Common.{◌∙◌, ℕ, List, ap, sym}
 use Rattle.std.specs.Global.{Vec}
 use Rattle.std.proofs.lemmas.Result.{err_from_is_err_and}
-use Rattle.td_group.specs.Nesting.{can_nest}
-use Rattle.td_tree.specs.Outcomes.{Valued}
+use Rattle.td_group.specs.model.Nesting.{can_nest}
+use Rattle.td_tree.specs.model.Outcomes.{Valued}
 use Rattle.td_tree.specs.code.TreeViews.{attributes_view}
 use Rattle.td_eval.proofs.code_lemmas.NestedNames.{names_given, names_misfit}
 use Rattle.td_eval.proofs.operators.nesting.nested_names.Goals as goal

@@ -2,9 +2,9 @@ use Rattle.std.proofs.Common.{◌≡◌, ◌∙◌, subst}
 use Rattle.std.specs.Prelude.{IfOk}
 use Rattle.td_check.proofs.Gives.{answered_then}
 use Rattle.td_eval.proofs.code_lemmas.NestedNames.{names_nest}
-use Rattle.td_eval.specs.OperatorValues.{nested_names, of_relation}
-use Rattle.td_group.specs.Nesting.{can_nest, wrapped_relation}
-use Rattle.td_tree.specs.Outcomes.{Valued}
+use Rattle.td_eval.specs.model.OperatorValues.{nested_names, of_relation}
+use Rattle.td_group.specs.model.Nesting.{can_nest, wrapped_relation}
+use Rattle.td_tree.specs.model.Outcomes.{Valued}
 use Rattle.td_tree.specs.code.TreeViews.{attributes_view}
 use Rattle.td_eval.proofs.operators.nesting.wrapped_value.Goals as goal
 

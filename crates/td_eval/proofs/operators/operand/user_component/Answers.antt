@@ -1,13 +1,13 @@
 use Rattle.std.proofs.Common.{◌≡◌, ◌∙◌, Some, ap, option_map, subst, sym}
 use Rattle.std.specs.List.{zip}
 use Rattle.std.specs.Rc.{rc_str_bytes}
-use Rattle.td_check.specs.OperatorTypes.{known_or}
+use Rattle.td_check.specs.model.OperatorTypes.{known_or}
 use Rattle.td_eval.proofs.code_lemmas.OpElements.{component_found}
 use Rattle.td_tree.specs.declared.cause.Cause.TheVariants as causes
-use Rattle.td_tree.specs.Outcomes.{Answers}
-use Rattle.td_types.specs.TypeLists.{declared_at}
-use Rattle.td_types.specs.Types.{attribute_names}
-use Rattle.td_value.specs.Values.{Val, value_at}
+use Rattle.td_tree.specs.model.Outcomes.{Answers}
+use Rattle.td_types.specs.model.TypeLists.{declared_at}
+use Rattle.td_types.specs.model.Types.{attribute_names}
+use Rattle.td_value.specs.model.Values.{Val, value_at}
 use Rattle.td_eval.proofs.operators.operand.user_component.Goals as goal
 
 pub returns : goal.returns

@@ -1,5 +1,5 @@
 use Rattle.std.proofs.Common.{◌≡◌, take}
-use Rattle.td_types.specs.Types.{attribute_names}
+use Rattle.td_types.specs.model.Types.{attribute_names}
 use Rattle.td_eval.proofs.operators.postfix.names_in.Given as goal
 
 abbrev pub invariant-loop-place : goal.invariant-loop-place

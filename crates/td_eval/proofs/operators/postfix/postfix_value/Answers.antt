@@ -1,9 +1,9 @@
 use Rattle.td_eval.proofs.code_lemmas.WalkedExtension.{answers_related}
-use Rattle.td_eval.specs.OperatorValues.{nested_names, of_relation}
-use Rattle.td_group.specs.Nesting.{grouped_relation, wrapped_relation}
-use Rattle.td_tree.specs.Outcomes.{with_value}
+use Rattle.td_eval.specs.model.OperatorValues.{nested_names, of_relation}
+use Rattle.td_group.specs.model.Nesting.{grouped_relation, wrapped_relation}
+use Rattle.td_tree.specs.model.Outcomes.{with_value}
 use Rattle.td_tree.specs.code.TreeViews.{attributes_view}
-use Rattle.td_value.specs.Values.{Val}
+use Rattle.td_value.specs.model.Values.{Val}
 use Rattle.td_eval.proofs.operators.postfix.postfix_value.Goals as goal
 
 pub returns-in_ok-relation_in-in-Group : goal.returns-in_ok-relation_in-in-Group

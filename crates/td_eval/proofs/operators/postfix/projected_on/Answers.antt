@@ -1,5 +1,5 @@
 use Rattle.std.proofs.Common.{rules}
-use Rattle.td_algebra.specs.Operators.{projected_relation}
+use Rattle.td_algebra.specs.model.Operators.{projected_relation}
 use Rattle.td_eval.proofs.code_lemmas.OpHeadings.{given_where}
 use Rattle.td_eval.proofs.operators.postfix.projected_on.Goals as goal
 

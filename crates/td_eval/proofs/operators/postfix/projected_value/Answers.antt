@@ -1,10 +1,10 @@
-use Rattle.td_algebra.specs.Operators.{projected_relation}
+use Rattle.td_algebra.specs.model.Operators.{projected_relation}
 use Rattle.std.proofs.Common.{subst}
-use Rattle.td_eval.specs.OperatorValues.{projected_names, relation_where}
-use Rattle.td_tree.specs.Outcomes.{Answers}
-use Rattle.td_tree.specs.Trees.{all_but}
-use Rattle.td_types.specs.Headings.{has_projection}
-use Rattle.td_value.specs.Values.{Val}
+use Rattle.td_eval.specs.model.OperatorValues.{projected_names, relation_where}
+use Rattle.td_tree.specs.model.Outcomes.{Answers}
+use Rattle.td_tree.specs.model.Trees.{all_but}
+use Rattle.td_types.specs.model.Headings.{has_projection}
+use Rattle.td_value.specs.model.Values.{Val}
 use Rattle.td_eval.proofs.operators.postfix.projected_value.Goals as goal
 
 pub returns-in-AllBut : goal.returns-in-AllBut

@@ -1,10 +1,10 @@
 use Rattle.std.proofs.Common.{◌≡◌, ◌∙◌, map, subst, sym}
 use Rattle.std.specs.Prelude.{IfOk}
-use Rattle.td_algebra.specs.Operators.{renamed_relation}
-use Rattle.td_check.specs.OperatorTypes.{renaming_pairs}
+use Rattle.td_algebra.specs.model.Operators.{renamed_relation}
+use Rattle.td_check.specs.model.OperatorTypes.{renaming_pairs}
 use Rattle.td_eval.proofs.code_lemmas.OpHeadings.{given_where}
 use Rattle.td_tree.specs.code.TreeViews.{renaming_view}
-use Rattle.td_types.specs.Headings.{can_rename}
+use Rattle.td_types.specs.model.Headings.{can_rename}
 use Rattle.td_eval.proofs.operators.postfix.renamed_value.Goals as goal
 
 pub returns : goal.returns

@@ -1,8 +1,8 @@
 use Rattle.std.proofs.Common.{◌≡◌, ◌∙◌, refl, rules, sym, true}
-use Rattle.td_algebra.specs.Operators.{union, is_disjoint}
+use Rattle.td_algebra.specs.model.Operators.{union, is_disjoint}
 use Rattle.td_eval.proofs.code_lemmas.OpValues.{related_alike}
-use Rattle.td_eval.specs.OperatorValues.{disjoint_union}
-use Rattle.td_types.specs.TypeOrder.{heading_eq-Decides}
+use Rattle.td_eval.specs.model.OperatorValues.{disjoint_union}
+use Rattle.td_types.specs.code.TypeOrder.{heading_eq-Decides}
 use Rattle.td_eval.proofs.operators.relational.disjoint_union_value.Goals as goal
 
 pub disjoint-requires : goal.disjoint-requires

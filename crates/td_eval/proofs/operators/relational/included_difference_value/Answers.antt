@@ -1,8 +1,8 @@
 use Rattle.std.proofs.Common.{◌≡◌, ◌∙◌, refl, rules, sym, true}
-use Rattle.td_algebra.specs.Operators.{difference, is_subset}
+use Rattle.td_algebra.specs.model.Operators.{difference, is_subset}
 use Rattle.td_eval.proofs.code_lemmas.OpValues.{related_alike}
-use Rattle.td_eval.specs.OperatorValues.{included_difference}
-use Rattle.td_types.specs.TypeOrder.{heading_eq-Decides}
+use Rattle.td_eval.specs.model.OperatorValues.{included_difference}
+use Rattle.td_types.specs.code.TypeOrder.{heading_eq-Decides}
 use Rattle.td_eval.proofs.operators.relational.included_difference_value.Goals as goal
 
 pub subset-requires : goal.subset-requires

@@ -1,7 +1,7 @@
-use Rattle.td_algebra.specs.Operators.{intersection}
-use Rattle.td_check.specs.OperatorTypes.{same_heading}
+use Rattle.td_algebra.specs.model.Operators.{intersection}
+use Rattle.td_check.specs.model.OperatorTypes.{same_heading}
 use Rattle.td_eval.proofs.code_lemmas.OpValues.{related_where}
-use Rattle.td_types.specs.TypeOrder.{heading_eq-Decides}
+use Rattle.td_types.specs.code.TypeOrder.{heading_eq-Decides}
 use Rattle.std.proofs.Common.{rules}
 use Rattle.td_eval.proofs.operators.relational.intersection_value.Goals as goal
 

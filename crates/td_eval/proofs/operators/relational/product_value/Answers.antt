@@ -1,7 +1,7 @@
 use Rattle.std.proofs.Common.{rules}
-use Rattle.td_algebra.specs.Operators.{product}
+use Rattle.td_algebra.specs.model.Operators.{product}
 use Rattle.td_eval.proofs.code_lemmas.OpValues.{related_where}
-use Rattle.td_types.specs.Headings.{have_no_common}
+use Rattle.td_types.specs.model.Headings.{have_no_common}
 use Rattle.td_eval.proofs.operators.relational.product_value.Goals as goal
 
 pub returns : goal.returns

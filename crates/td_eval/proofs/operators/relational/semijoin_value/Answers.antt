@@ -1,7 +1,7 @@
 use Rattle.std.proofs.Common.{rules}
-use Rattle.td_algebra.specs.Operators.{semijoin}
+use Rattle.td_algebra.specs.model.Operators.{semijoin}
 use Rattle.td_eval.proofs.code_lemmas.OpValues.{related_where}
-use Rattle.td_types.specs.Headings.{agree}
+use Rattle.td_types.specs.model.Headings.{agree}
 use Rattle.td_eval.proofs.operators.relational.semijoin_value.Goals as goal
 
 pub returns : goal.returns

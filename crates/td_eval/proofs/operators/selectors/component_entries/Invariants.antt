@@ -1,6 +1,6 @@
 use Rattle.std.proofs.Common.{◌≡◌, ◌++◌, drop}
 use Rattle.std.specs.List.{zip}
-use Rattle.td_types.specs.Types.{attribute_names}
+use Rattle.td_types.specs.model.Types.{attribute_names}
 use Rattle.td_types.specs.code.Views.{pairs_view}
 use Rattle.td_eval.proofs.operators.selectors.component_entries.Given as goal
 

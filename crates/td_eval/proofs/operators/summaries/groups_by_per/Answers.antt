@@ -1,6 +1,6 @@
 use Rattle.std.proofs.Common.{◌∙◌, sym}
 use Rattle.td_eval.proofs.code_lemmas.WalkedTotals.{part_agrees}
-use Rattle.td_types.specs.Headings.{is_part}
+use Rattle.td_types.specs.model.Headings.{is_part}
 use Rattle.td_eval.proofs.operators.summaries.groups_by_per.Goals as goal
 
 pub groups-requires : goal.groups-requires

@@ -1,6 +1,6 @@
 use Rattle.std.proofs.Common.{map, take}
 use Rattle.td_eval.specs.code.Totals.{attribute_found}
-use Rattle.td_tree.specs.Gatherings.{IsGathered}
+use Rattle.td_tree.specs.code.Gatherings.{IsGathered}
 use Rattle.td_types.specs.code.Pairs.{pair_view}
 use Rattle.td_eval.proofs.operators.summaries.item_attributes.Given as goal
 

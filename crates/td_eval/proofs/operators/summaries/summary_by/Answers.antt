@@ -2,19 +2,19 @@ use Rattle.std.proofs.Common.{◌≡◌, ◌∙◌, ℕ, Err, List, ap, length, 
 use Rattle.std.proofs.lemmas.List.{length-map}
 use Rattle.std.proofs.lemmas.Result.{err_from_is_err_and}
 use Rattle.std.specs.Global.{Vec}
-use Rattle.td_algebra.specs.Columns.{columns_view}
+use Rattle.td_algebra.specs.code.Columns.{columns_view}
 use Rattle.td_algebra.specs.declared.extension.Column.{Column}
 use Rattle.td_eval.proofs.code_lemmas.WalkedExtension.{apart_given, checked_of, columns_fit, columns_of_additions, columns_refused, distinct_given, extended_given, same_attributes}
 use Rattle.td_eval.proofs.code_lemmas.WalkedTotals.{as_many_totals, columns_same}
-use Rattle.td_eval.specs.AggregateValues.{summary_in}
+use Rattle.td_eval.specs.model.AggregateValues.{summary_in}
 use Rattle.td_eval.specs.code.NewColumns.{named_columns}
-use Rattle.td_eval.specs.OperatorValues.{additions_of}
+use Rattle.td_eval.specs.model.OperatorValues.{additions_of}
 use Rattle.td_eval.specs.code.Totals.{total_view}
-use Rattle.td_group.specs.Groups.{groups}
-use Rattle.td_tree.specs.Outcomes.{Answers, Valued, gathered}
-use Rattle.td_types.specs.Headings.{are_distinct, have_no_common}
+use Rattle.td_group.specs.model.Groups.{groups}
+use Rattle.td_tree.specs.model.Outcomes.{Answers, Valued, gathered}
+use Rattle.td_types.specs.model.Headings.{are_distinct, have_no_common}
 use Rattle.td_types.specs.code.Pairs.{pair_view}
-use Rattle.td_types.specs.Types.{attribute_names}
+use Rattle.td_types.specs.model.Types.{attribute_names}
 use Rattle.td_types.specs.code.Views.{pairs_view}
 use Rattle.td_eval.proofs.operators.summaries.summary_by.Goals as goal
 

@@ -1,7 +1,7 @@
 use Rattle.std.proofs.Common.{ℕ, List, ap, map, subst}
 use Rattle.std.specs.Global.{Vec}
 use Rattle.std.specs.List.{zip}
-use Rattle.td_algebra.specs.Columns.{columns_view}
+use Rattle.td_algebra.specs.code.Columns.{columns_view}
 use Rattle.td_algebra.specs.declared.extension.Column.{Column}
 use Rattle.td_eval.proofs.code_lemmas.WalkedColumns.{beside_at, beside_past, beside_within}
 use Rattle.td_eval.proofs.code_lemmas.WalkedLists.{walked}
@@ -9,9 +9,9 @@ use Rattle.td_eval.proofs.code_lemmas.WalkedTotals.{total_column, total_columns_
 use Rattle.td_eval.specs.code.NewColumns.{column_view}
 use Rattle.td_eval.specs.code.Totals.{total_values, total_view}
 use Rattle.td_tree.proofs.code_lemmas.Gatherings.{collected_next}
-use Rattle.td_tree.specs.Outcomes.{Answers, gathered}
+use Rattle.td_tree.specs.model.Outcomes.{Answers, gathered}
 use Rattle.td_types.specs.code.Views.{type_view}
-use Rattle.td_value.specs.Values.{Val}
+use Rattle.td_value.specs.model.Values.{Val}
 use Rattle.td_eval.proofs.operators.summaries.total_columns.Goals as goal
 
 pub loop-place-preserved : goal.loop-place-preserved

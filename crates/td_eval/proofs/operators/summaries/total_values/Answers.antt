@@ -2,12 +2,12 @@ use Rattle.std.proofs.Common.{ap, subst, sym}
 use Rattle.std.specs.Global.{Vec}
 use Rattle.td_check.proofs.GatheredAnswers.{map_twice}
 use Rattle.td_eval.proofs.code_lemmas.WalkedLists.{walked_values}
-use Rattle.td_eval.specs.AggregateValues.{aggregate_of}
-use Rattle.td_eval.specs.OperatorValues.{value_of_type}
+use Rattle.td_eval.specs.model.AggregateValues.{aggregate_of}
+use Rattle.td_eval.specs.model.OperatorValues.{value_of_type}
 use Rattle.td_tree.proofs.code_lemmas.Gatherings.{collected_next}
-use Rattle.td_tree.specs.Outcomes.{Answers, gathered, with_value}
+use Rattle.td_tree.specs.model.Outcomes.{Answers, gathered, with_value}
 use Rattle.td_types.specs.code.Views.{type_view}
-use Rattle.td_value.specs.Values.{Val}
+use Rattle.td_value.specs.model.Values.{Val}
 use Rattle.td_eval.proofs.operators.summaries.total_values.Goals as goal
 
 pub loop-group-preserved : goal.loop-group-preserved

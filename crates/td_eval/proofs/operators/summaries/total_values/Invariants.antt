@@ -1,8 +1,8 @@
 use Rattle.std.proofs.Common.{map, take}
-use Rattle.td_eval.specs.AggregateValues.{aggregate_of}
-use Rattle.td_eval.specs.OperatorValues.{value_of_type}
-use Rattle.td_tree.specs.Gatherings.{IsGathered}
-use Rattle.td_tree.specs.Outcomes.{with_value}
+use Rattle.td_eval.specs.model.AggregateValues.{aggregate_of}
+use Rattle.td_eval.specs.model.OperatorValues.{value_of_type}
+use Rattle.td_tree.specs.code.Gatherings.{IsGathered}
+use Rattle.td_tree.specs.model.Outcomes.{with_value}
 use Rattle.td_types.specs.code.Views.{type_view}
 use Rattle.td_eval.proofs.operators.summaries.total_values.Given as goal
 

@@ -1,4 +1,4 @@
-use Rattle.td_algebra.specs.Operators.{extended_relation}
+use Rattle.td_algebra.specs.model.Operators.{extended_relation}
 use Rattle.td_eval.proofs.operators.tuplewise.extension_value.Goals as goal
 
 pub returns : goal.returns

@@ -1,8 +1,8 @@
 use Rattle.std.proofs.Common.{◌≡◌, ◌∙◌, map, subst}
-use Rattle.td_algebra.specs.Operators.{restriction}
+use Rattle.td_algebra.specs.model.Operators.{restriction}
 use Rattle.td_eval.proofs.code_lemmas.OpTuples.{restricted_of, truths_are}
-use Rattle.td_eval.specs.OperatorValues.{is_true, truth_value}
-use Rattle.td_tree.specs.Outcomes.{Answers, Valued, gathered}
+use Rattle.td_eval.specs.model.OperatorValues.{is_true, truth_value}
+use Rattle.td_tree.specs.model.Outcomes.{Answers, Valued, gathered}
 use Rattle.td_eval.proofs.operators.tuplewise.restriction_value.Goals as goal
 
 pub returns : goal.returns

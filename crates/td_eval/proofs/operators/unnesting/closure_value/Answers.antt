@@ -1,6 +1,6 @@
 use Rattle.std.proofs.Common.{rules}
 use Rattle.td_eval.proofs.code_lemmas.OpHeadings.{given_where}
-use Rattle.td_group.specs.Closure.{closure}
+use Rattle.td_group.specs.model.Closure.{closure}
 use Rattle.td_eval.proofs.operators.unnesting.closure_value.Goals as goal
 
 pub returns : goal.returns

@@ -1,9 +1,9 @@
 use Rattle.std.proofs.Common.{◌≡◌, ◌∙◌, Some, ap, sym}
-use Rattle.td_check.specs.OperatorTypes.{known_or, over_tuple}
+use Rattle.td_check.specs.model.OperatorTypes.{known_or, over_tuple}
 use Rattle.td_tree.specs.declared.cause.Cause.TheVariants as causes
-use Rattle.td_tree.specs.Outcomes.{Valued, with_value}
+use Rattle.td_tree.specs.model.Outcomes.{Valued, with_value}
 use Rattle.td_types.specs.code.TypeCode.{unpack_pack}
-use Rattle.td_types.specs.Types.{pack, tuple, type_at}
+use Rattle.td_types.specs.model.Types.{pack, tuple, type_at}
 use Rattle.td_types.specs.code.Views.{type_view}
 use Rattle.td_eval.proofs.operators.unnesting.tuple_part.Goals as goal
 

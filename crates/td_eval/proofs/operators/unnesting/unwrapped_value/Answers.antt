@@ -1,10 +1,10 @@
 use Rattle.std.proofs.Common.{◌∙◌, ap, subst, sym}
 use Rattle.td_eval.proofs.code_lemmas.OpHeadings.{given_where}
 use Rattle.td_eval.proofs.code_lemmas.UnnestedParts.{tuple_there}
-use Rattle.td_eval.specs.OperatorValues.{relation_where}
-use Rattle.td_group.specs.Nesting.{can_unnest, unnested_relation}
-use Rattle.td_tree.specs.Outcomes.{Answers}
-use Rattle.td_value.specs.Values.{Val}
+use Rattle.td_eval.specs.model.OperatorValues.{relation_where}
+use Rattle.td_group.specs.model.Nesting.{can_unnest, unnested_relation}
+use Rattle.td_tree.specs.model.Outcomes.{Answers}
+use Rattle.td_value.specs.model.Values.{Val}
 use Rattle.td_eval.proofs.operators.unnesting.unwrapped_value.Goals as goal
 
 pub unwrap-requires-clause-tuple : goal.unwrap-requires-clause-tuple

@@ -1,4 +1,4 @@
-use Rattle.td_parse.specs.Reading.{read}
+use Rattle.td_parse.specs.code.Reading.{read}
 use Rattle.td_parse.proofs.Walks.{walked_is}
 use Rattle.td_parse.proofs.grammar.Grammar.by_level.Goals as goal
 

@@ -1,7 +1,7 @@
 use Rattle.std.proofs.Common.{◌≡◌, ◌-◌, map}
-use Rattle.td_tree.specs.Grammar.{loosest}
-use Rattle.td_parse.specs.ReadingSteps.{list_by_commas, separated_from}
-use Rattle.td_parse.specs.Reading.{read}
+use Rattle.td_tree.specs.model.Grammar.{loosest}
+use Rattle.td_parse.specs.code.ReadingSteps.{list_by_commas, separated_from}
+use Rattle.td_parse.specs.code.Reading.{read}
 use Rattle.td_tree.specs.code.TreeViews.{tree_view}
 use Rattle.td_parse.proofs.grammar.Grammar.elements.Given as goal
 

@@ -1,6 +1,6 @@
 use Rattle.std.proofs.Common.{◌≡◌, ◌-◌, map}
-use Rattle.td_parse.specs.ReadingSteps.{list_by_commas, separated_from}
-use Rattle.td_parse.specs.Reading.{part, read}
+use Rattle.td_parse.specs.code.ReadingSteps.{list_by_commas, separated_from}
+use Rattle.td_parse.specs.code.Reading.{part, read}
 use Rattle.td_parse.specs.code.Views.{named_part_view}
 use Rattle.td_parse.proofs.grammar.Grammar.parts.Given as goal
 

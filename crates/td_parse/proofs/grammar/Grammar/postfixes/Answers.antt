@@ -1,6 +1,6 @@
 use Rattle.std.proofs.Common.{◌≡◌, ℕ, suc, ◌+◌, ◌-◌, ap, arith, sym}
 use Rattle.std.proofs.lemmas.Result.{err_from_is_err_and}
-use Rattle.td_parse.specs.Reading.{postfixes, read}
+use Rattle.td_parse.specs.code.Reading.{postfixes, read}
 use Rattle.td_tree.specs.code.TreeViews.{tree_view}
 use Rattle.td_parse.proofs.LoopTurns.{goes_on_behind, turns_away_behind}
 use Rattle.td_parse.proofs.grammar.Grammar.postfixes.Goals as goal

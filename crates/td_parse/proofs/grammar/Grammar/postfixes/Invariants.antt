@@ -1,6 +1,6 @@
 use Rattle.std.proofs.Common.{◌≡◌, ◌-◌, suc}
-use Rattle.td_parse.specs.Reading as reading
-use Rattle.td_parse.specs.Reading.{read}
+use Rattle.td_parse.specs.code.Reading as reading
+use Rattle.td_parse.specs.code.Reading.{read}
 use Rattle.td_tree.specs.code.TreeViews.{tree_view}
 use Rattle.td_parse.proofs.grammar.Grammar.postfixes.Given as goal
 

@@ -1,5 +1,5 @@
 use Rattle.std.proofs.lemmas.Result.{err_from_is_err_and}
-use Rattle.td_parse.specs.Reading.{read}
+use Rattle.td_parse.specs.code.Reading.{read}
 use Rattle.td_parse.proofs.LoopTurns.{goes_on, turns_away}
 use Rattle.td_parse.proofs.grammar.Grammar.walk.Goals as goal
 

@@ -1,5 +1,5 @@
 use Rattle.std.proofs.Common.{◌≡◌, ◌-◌, suc}
-use Rattle.td_parse.specs.Reading.{read}
+use Rattle.td_parse.specs.code.Reading.{read}
 use Rattle.td_parse.specs.code.Walking.{tightness, walk}
 use Rattle.td_tree.specs.code.TreeViews.{tree_view}
 use Rattle.td_parse.proofs.grammar.Grammar.walk.Given as goal

@@ -1,8 +1,8 @@
 use Rattle.std.proofs.Common.{◌∙◌, ap, subst, sym}
-use Rattle.td_plan.specs.Closed.{IsClosed}
+use Rattle.td_plan.specs.code.Closed.{IsClosed}
 use Rattle.td_tree.proofs.code_lemmas.Rows.{headed_relation_is, relation_is, tuple_is}
 use Rattle.td_tree.specs.code.TreeViews.{heading_tree_view, named_view, tree_view, trees_view}
-use Rattle.td_tree.specs.Trees as trees
+use Rattle.td_tree.specs.model.Trees as trees
 use Rattle.td_plan.proofs.making.closed.+closed.Goals as goal
 
 pub is_constant-returns-in-Tuple : goal.is_constant-returns-in-Tuple

@@ -1,5 +1,5 @@
 use Rattle.std.proofs.Common.{drop}
-use Rattle.td_plan.specs.Closed.{AreClosed, PartsAreClosed}
+use Rattle.td_plan.specs.code.Closed.{AreClosed, PartsAreClosed}
 use Rattle.td_tree.specs.code.TreeViews.{named_view, trees_view}
 use Rattle.td_plan.proofs.making.closed.+closed.Given as goal
 

@@ -1,13 +1,13 @@
 use Rattle.std.proofs.Common.{◌∙◌, ap, subst, sym}
 use Rattle.td_plan.specs.code.PlannedParts.{ArePlanned, in_trees}
 use Rattle.td_plan.specs.declared.plan.step.Selector.TheVariants as selectors
-use Rattle.td_plan.specs.PlansOf.{IsPlanOfTyped}
+use Rattle.td_plan.specs.code.PlansOf.{IsPlanOfTyped}
 use Rattle.td_plan.specs.code.StepViews.{steps_view}
 use Rattle.td_plan.proofs.PlannedNodes.{headed_planned}
 use Rattle.td_plan.proofs.StepRows.{select_is}
 use Rattle.td_tree.specs.code.TreeViews.{heading_tree_view}
-use Rattle.td_tree.specs.Trees as trees
-use Rattle.td_types.specs.TypeLists.{heading_meant}
+use Rattle.td_tree.specs.model.Trees as trees
+use Rattle.td_types.specs.model.TypeLists.{heading_meant}
 use Rattle.td_plan.proofs.making.nodes.headed_step.Goals as goal
 
 pub returns-in-Ok : goal.returns-in-Ok

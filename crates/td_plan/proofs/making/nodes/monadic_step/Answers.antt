@@ -1,9 +1,9 @@
 use Rattle.std.proofs.Common.{◌≡◌, subst, sym}
 use Rattle.std.specs.Prelude.{IfOk}
-use Rattle.td_plan.specs.OperatorTrees.{monadic_tree}
+use Rattle.td_plan.specs.code.OperatorTrees.{monadic_tree}
 use Rattle.td_plan.specs.code.PlannedParts.{IsBoxPlanned}
-use Rattle.td_plan.specs.Plans as plans
-use Rattle.td_plan.specs.PlansOf.{IsPlanOfTyped}
+use Rattle.td_plan.specs.code.Plans as plans
+use Rattle.td_plan.specs.code.PlansOf.{IsPlanOfTyped}
 use Rattle.td_plan.specs.code.StepViews.{monadic_view, step_view}
 use Rattle.td_plan.proofs.PlannedNodes.{monadic_planned}
 use Rattle.td_plan.proofs.making.nodes.monadic_step.Goals as goal

@@ -1,11 +1,11 @@
 use Rattle.std.proofs.Common.{subst, sym}
 use Rattle.td_plan.specs.code.PlannedParts.{ArePlanned, in_trees}
 use Rattle.td_plan.specs.declared.plan.step.Selector.TheVariants as selectors
-use Rattle.td_plan.specs.PlansOf.{IsPlanOfTyped}
+use Rattle.td_plan.specs.code.PlansOf.{IsPlanOfTyped}
 use Rattle.td_plan.specs.code.StepViews.{steps_view}
 use Rattle.td_plan.proofs.PlannedNodes.{relation_planned}
 use Rattle.td_plan.proofs.StepRows.{select_is}
-use Rattle.td_tree.specs.Trees as trees
+use Rattle.td_tree.specs.model.Trees as trees
 use Rattle.td_plan.proofs.making.nodes.relation_step.Goals as goal
 
 pub returns : goal.returns

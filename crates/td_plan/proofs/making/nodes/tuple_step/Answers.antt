@@ -1,13 +1,13 @@
 use Rattle.std.proofs.Common.{◌∙◌, map, subst, sym}
 use Rattle.td_plan.specs.code.PlannedParts.{ArePlanned, ArePlansOfTyped, part_tree}
 use Rattle.td_plan.specs.declared.plan.step.Selector.TheVariants as selectors
-use Rattle.td_plan.specs.PlansOf.{IsPlanOfTyped}
+use Rattle.td_plan.specs.code.PlansOf.{IsPlanOfTyped}
 use Rattle.td_plan.specs.code.StepViews.{steps_view}
 use Rattle.td_plan.proofs.PlannedLists.{names_are, parts_are}
 use Rattle.td_plan.proofs.PlannedNodes.{tuple_planned}
 use Rattle.td_plan.proofs.StepRows.{select_is}
 use Rattle.td_tree.specs.code.TreeViews.{named_view}
-use Rattle.td_tree.specs.Trees as trees
+use Rattle.td_tree.specs.model.Trees as trees
 use Rattle.td_plan.proofs.making.nodes.tuple_step.Goals as goal
 
 pub returns : goal.returns

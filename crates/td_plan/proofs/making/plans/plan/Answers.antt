@@ -2,7 +2,7 @@ use Rattle.std.proofs.Common.{subst}
 use Rattle.std.proofs.lemmas.Result.{IfOk-weaker}
 use Rattle.td_plan.proofs.MadePlans.{planned_by}
 use Rattle.td_plan.specs.code.PlannedParts.{IsPlanned}
-use Rattle.td_plan.specs.PlansOf.{IsPlanOfTyped, scope_in}
+use Rattle.td_plan.specs.code.PlansOf.{IsPlanOfTyped, scope_in}
 use Rattle.td_tree.specs.code.TreeViews.{tree_view}
 use Rattle.td_plan.proofs.making.plans.plan.Goals as goal
 

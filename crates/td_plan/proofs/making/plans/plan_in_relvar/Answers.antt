@@ -1,11 +1,11 @@
 use Rattle.std.proofs.Common.{subst}
 use Rattle.std.proofs.lemmas.Result.{IfOk-weaker}
 use Rattle.td_plan.proofs.MadePlans.{planned_by}
-use Rattle.td_plan.specs.PlansOf.{IsPlanOfTyped, scope_in}
+use Rattle.td_plan.specs.code.PlansOf.{IsPlanOfTyped, scope_in}
 use Rattle.td_plan.specs.code.PlanViews.{plan_view}
 use Rattle.td_plan.specs.code.PlannedParts.{IsPlanned}
 use Rattle.td_tree.specs.code.TreeViews.{tree_view}
-use Rattle.td_tree.specs.Trees.{name, restriction}
+use Rattle.td_tree.specs.model.Trees.{name, restriction}
 use Rattle.td_plan.proofs.making.plans.plan_in_relvar.Goals as goal
 
 pub returns : goal.returns

@@ -2,7 +2,7 @@ use Rattle.std.proofs.Common.{subst}
 use Rattle.std.specs.Prelude.{IfOk}
 use Rattle.td_plan.proofs.MadePlans.{planned_by}
 use Rattle.td_plan.specs.code.StepViews.{step_view}
-use Rattle.td_plan.specs.PlansOf.{ArePlannedSettings, scope_in}
+use Rattle.td_plan.specs.code.PlansOf.{ArePlannedSettings, scope_in}
 use Rattle.td_tree.specs.code.TreeViews.{named_view}
 use Rattle.td_types.specs.code.Views.{pairs_view}
 use Rattle.td_plan.proofs.making.plans.plan_settings.Goals as goal

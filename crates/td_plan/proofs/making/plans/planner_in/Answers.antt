@@ -1,10 +1,10 @@
 use Rattle.std.proofs.Common.{◌∙◌, ◌<◌, ap, length, rules, sym}
 use Rattle.std.specs.Borrow.{Bor}
-use Rattle.td_catalog.specs.Database.{database_scope}
-use Rattle.td_check.specs.Scopes.{entered_with}
-use Rattle.td_eval.specs.Worlds.{with_tuples}
+use Rattle.td_catalog.specs.model.Database.{database_scope}
+use Rattle.td_check.specs.model.Scopes.{entered_with}
+use Rattle.td_eval.specs.model.Worlds.{with_tuples}
 use Rattle.td_plan.proofs.Places.{one_more_of}
-use Rattle.td_value.specs.Values.{Tuple}
+use Rattle.td_value.specs.model.Values.{Tuple}
 use Rattle.td_plan.proofs.making.plans.planner_in.Goals as goal
 
 pub loop-tuple-preserved : goal.loop-tuple-preserved

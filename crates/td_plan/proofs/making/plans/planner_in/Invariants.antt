@@ -1,6 +1,6 @@
 use Rattle.std.proofs.Common.{◌≡◌, map, reverse, take}
-use Rattle.td_catalog.specs.Database.{database_scope}
-use Rattle.td_eval.specs.Worlds.{with_tuples}
+use Rattle.td_catalog.specs.model.Database.{database_scope}
+use Rattle.td_eval.specs.model.Worlds.{with_tuples}
 use Rattle.td_plan.specs.code.Planners.{IsPlanner, catalog_database}
 use Rattle.td_plan.proofs.making.plans.planner_in.Given as goal
 

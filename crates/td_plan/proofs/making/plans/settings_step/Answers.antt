@@ -1,15 +1,15 @@
 use Rattle.std.proofs.Common.{◌≡◌, ◌∙◌, ap, subst, sym}
-use Rattle.td_check.specs.Scopes.{entered_with}
+use Rattle.td_check.specs.model.Scopes.{entered_with}
 use Rattle.td_plan.proofs.PlannedLists.{parts_are}
 use Rattle.td_plan.proofs.PlannedSettings.{settings_planned}
 use Rattle.td_plan.proofs.StepRows.{extend_is}
-use Rattle.td_plan.specs.Plans.{PlanTree, constant, extend}
-use Rattle.td_plan.specs.PlansOf.{ArePlannedSettings}
+use Rattle.td_plan.specs.code.Plans.{PlanTree, constant, extend}
+use Rattle.td_plan.specs.code.PlansOf.{ArePlannedSettings}
 use Rattle.td_plan.specs.code.PlannedParts.{ArePlansOfTyped, in_named}
 use Rattle.td_plan.specs.code.StepViews.{step_view, steps_view}
 use Rattle.td_tree.specs.code.TreeViews.{named_view}
 use Rattle.td_types.specs.code.Views.{pairs_view}
-use Rattle.td_value.specs.Values.{relation_value}
+use Rattle.td_value.specs.model.Values.{relation_value}
 use Rattle.td_plan.proofs.making.plans.settings_step.Goals as goal
 
 pub returns : goal.returns

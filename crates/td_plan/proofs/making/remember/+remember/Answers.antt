@@ -7,7 +7,7 @@ use Rattle.td_plan.proofs.Remembering.{all_made, all_remembered, among_but_more,
 use Rattle.td_plan.proofs.RememberedRows.{part_deep, parts_deep, parts_sound}
 use Rattle.td_plan.proofs.StepRows.{select_is, steps_are}
 use Rattle.td_plan.proofs.Withins.{aggregate_on, attribute_on, bound_on, choice_on, dyadic_on, extend_on, look_up_on, monadic_on, on_more, restriction_on, select_on, summarize_by_on, summarize_per_on}
-use Rattle.td_plan.specs.Plans as plans
+use Rattle.td_plan.specs.code.Plans as plans
 use Rattle.td_plan.specs.code.Memos.{AreWithinReach, IsOn}
 use Rattle.td_plan.specs.code.Remembered.{AreAllAmong, AreAmong, AreAmongBut, AreBoundNames, AreEachKept, AreEachRemembered, IsRemembered, KeepsPart}
 use Rattle.td_plan.specs.code.StepHeights.{step_height}

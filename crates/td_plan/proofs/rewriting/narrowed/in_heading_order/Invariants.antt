@@ -1,7 +1,7 @@
 use Rattle.std.proofs.Common.{◌≡◌, map, take}
 use Rattle.std.specs.List.{Contains}
 use Rattle.td_plan.specs.declared.rewriting.fixed.FixedValue.{FixedValue}
-use Rattle.td_types.specs.Types.{attribute_names}
+use Rattle.td_types.specs.model.Types.{attribute_names}
 use Rattle.td_plan.proofs.rewriting.narrowed.in_heading_order.Given as goal
 
 abbrev pub invariant-loop-place : goal.invariant-loop-place

@@ -1,17 +1,17 @@
 use Rattle.std.proofs.Common.{◌≡◌, map, subst, sym}
 use Rattle.std.specs.List.{Contains}
 use Rattle.std.specs.Prelude.{IfOk, IfSome, IsTrue}
-use Rattle.td_check.specs.CannotFail.{cannot_fail}
+use Rattle.td_check.specs.laws.CannotFail.{cannot_fail}
 use Rattle.td_plan.proofs.FixedParts.{all_among}
 use Rattle.td_plan.proofs.LookUpValues.{look_up_narrows}
 use Rattle.td_plan.specs.declared.rewriting.fixed.FixedValue.{FixedValue}
-use Rattle.td_plan.specs.Fixing.{IsUnfailing}
-use Rattle.td_plan.specs.Narrowing.{AreFixed, IsFixedTo, Narrows}
+use Rattle.td_plan.specs.code.Fixing.{IsUnfailing}
+use Rattle.td_plan.specs.code.Narrowing.{AreFixed, IsFixedTo, Narrows}
 use Rattle.td_plan.specs.code.StepViews.{step_view}
-use Rattle.td_tree.specs.WrittenTrees.{IsWritten}
+use Rattle.td_tree.specs.model.WrittenTrees.{IsWritten}
 use Rattle.td_tree.specs.code.TreeViews.{tree_view}
-use Rattle.td_types.specs.Headings.{projection}
-use Rattle.td_types.specs.Types.{attribute_names}
+use Rattle.td_types.specs.model.Headings.{projection}
+use Rattle.td_types.specs.model.Types.{attribute_names}
 use Rattle.td_plan.proofs.rewriting.narrowed.look_up_by_key.Goals as goal
 
 pub returns-in_ok-look_up_step-in-Some-2 : goal.returns-in_ok-look_up_step-in-Some-2

@@ -5,7 +5,7 @@ use Rattle.std.proofs.lemmas.List.{map-id}
 use Rattle.td_plan.proofs.StepRows.{select_is}
 use Rattle.td_plan.specs.declared.plan.step.Selector.TheVariants as selectors
 use Rattle.td_plan.specs.declared.rewriting.fixed.FixedValue.{FixedValue}
-use Rattle.td_plan.specs.Plans as plans
+use Rattle.td_plan.specs.code.Plans as plans
 use Rattle.td_plan.specs.code.StepViews.{steps_view}
 use Rattle.td_plan.proofs.rewriting.narrowed.part_step.Goals as goal
 

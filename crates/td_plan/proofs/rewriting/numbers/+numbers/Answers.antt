@@ -2,7 +2,7 @@ use Rattle.std.proofs.Common.{◌≡◌, ◌⊎◌, inl, inr, ◌∙◌, List, [
 use Rattle.std.specs.Global.{Box, Vec}
 use Rattle.std.proofs.lemmas.Bool.{eqb-true}
 use Rattle.std.specs.Prelude.{◌==◌}
-use Rattle.td_eval.specs.TreeNumbers.{HasNumbers, ItemsHaveNumbers, PartsHaveNumbers}
+use Rattle.td_eval.specs.laws.TreeNumbers.{HasNumbers, ItemsHaveNumbers, PartsHaveNumbers}
 use Rattle.td_plan.proofs.rewriting.numbers.+numbers.Goals.{has_numbers-else-has_numbers, has_numbers-then-has_numbers}
 use Rattle.td_plan.proofs.rewriting.numbers.+numbers.Goals as goal
 use Rattle.td_tree.proofs.code_lemmas.Rows.{binding_is, extend_is, extend_setting_is, headed_relation_is, relation_is, select_is, summarize_by_is, summarize_per_is, tuple_is}
@@ -11,7 +11,7 @@ use Rattle.td_tree.specs.declared.expression.Expr.TheVariants as exprs
 use Rattle.td_tree.specs.declared.expression.NamedExpr.{NamedExpr}
 use Rattle.td_tree.specs.declared.expression.Summary.{Summary}
 use Rattle.td_tree.specs.code.TreeViews.{attributes_view, heading_tree_view, named_view, summaries_view, tree_view, trees_view}
-use Rattle.td_tree.specs.Trees as trees
+use Rattle.td_tree.specs.model.Trees as trees
 
 pub has_numbers-returns-in-Select : goal.has_numbers-returns-in-Select
 has_numbers-returns-in-Select t c =

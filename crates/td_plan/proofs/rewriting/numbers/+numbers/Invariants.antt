@@ -1,5 +1,5 @@
 use Rattle.std.proofs.Common.{drop}
-use Rattle.td_eval.specs.TreeNumbers.{HaveNumbers, PartsHaveNumbers}
+use Rattle.td_eval.specs.laws.TreeNumbers.{HaveNumbers, PartsHaveNumbers}
 use Rattle.td_plan.proofs.rewriting.numbers.+numbers.Given as goal
 use Rattle.td_tree.specs.code.TreeViews.{named_view, trees_view}
 

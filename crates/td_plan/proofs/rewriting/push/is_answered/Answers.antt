@@ -1,10 +1,10 @@
 use Rattle.std.proofs.Common.{◌≡◌, subst}
 use Rattle.std.proofs.lemmas.Result.{IfOk-weaker}
-use Rattle.td_check.specs.StaticTypes.{type_of}
-use Rattle.td_plan.specs.Fixing.{IsUnfailing}
-use Rattle.td_tree.specs.Outcomes.{Valued}
+use Rattle.td_check.specs.model.StaticTypes.{type_of}
+use Rattle.td_plan.specs.code.Fixing.{IsUnfailing}
+use Rattle.td_tree.specs.model.Outcomes.{Valued}
 use Rattle.td_tree.specs.code.TreeViews.{tree_view}
-use Rattle.td_types.specs.Types as types
+use Rattle.td_types.specs.model.Types as types
 use Rattle.td_plan.proofs.rewriting.push.is_answered.Goals as goal
 
 pub returns : goal.returns

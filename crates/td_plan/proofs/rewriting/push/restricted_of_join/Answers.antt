@@ -1,11 +1,11 @@
 use Rattle.std.proofs.Common.{◌≡◌, subst}
 use Rattle.std.specs.Prelude.{IfSome}
-use Rattle.td_check.specs.StaticTypes.{type_of}
+use Rattle.td_check.specs.model.StaticTypes.{type_of}
 use Rattle.td_plan.proofs.Pushed.{join_first_stands, join_second_stands, times_first_stands, times_second_stands}
-use Rattle.td_tree.specs.Outcomes.{Valued}
+use Rattle.td_tree.specs.model.Outcomes.{Valued}
 use Rattle.td_tree.specs.code.TreeViews.{tree_view}
-use Rattle.td_types.specs.Types.{pack}
-use Rattle.td_types.specs.Types as types
+use Rattle.td_types.specs.model.Types.{pack}
+use Rattle.td_types.specs.model.Types as types
 use Rattle.td_plan.proofs.rewriting.push.restricted_of_join.Goals as goal
 
 pub returns-then-branch : goal.returns-then-branch

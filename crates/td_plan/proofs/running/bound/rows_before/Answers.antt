@@ -1,6 +1,6 @@
 use Rattle.std.proofs.Common.{◌∙◌, ap}
 use Rattle.td_plan.proofs.SlotLaws.{slots_taken}
-use Rattle.td_plan.specs.Plans.{slots_before}
+use Rattle.td_plan.specs.code.Plans.{slots_before}
 use Rattle.td_plan.specs.code.Hands.{slots_in}
 use Rattle.td_plan.proofs.running.bound.rows_before.Goals as goal
 

@@ -1,8 +1,8 @@
 use Rattle.std.proofs.Common.{◌≡◌, ◌∙◌, ap, map, subst}
 use Rattle.std.specs.Prelude.{count_by}
-use Rattle.td_eval.specs.OperatorValues.{truth_value}
+use Rattle.td_eval.specs.model.OperatorValues.{truth_value}
 use Rattle.td_plan.proofs.CountedTruths.{truths_counted}
-use Rattle.td_tree.specs.Outcomes.{Answers, Valued, gathered}
+use Rattle.td_tree.specs.model.Outcomes.{Answers, Valued, gathered}
 use Rattle.td_plan.proofs.running.counted.truths_measured.Goals as goal
 
 pub returns : goal.returns

@@ -4,7 +4,7 @@ use Rattle.std.proofs.lemmas.Iterator.{YieldsList-from_slice}
 use Rattle.std.proofs.lemmas.Iterator.Search.{all_from_yields_List}
 use Rattle.std.proofs.lemmas.List.Folds.{list_all-map}
 use Rattle.td_types.specs.declared.ty.Ty.{Ty}
-use Rattle.td_types.specs.Headings.{has_attribute}
+use Rattle.td_types.specs.model.Headings.{has_attribute}
 use Rattle.td_types.specs.code.Pairs.{pair_view}
 use Rattle.td_types.proofs.Attributes.{found}
 use Rattle.td_plan.proofs.running.extended.are_new.Goals as goal

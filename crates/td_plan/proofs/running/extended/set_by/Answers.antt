@@ -1,10 +1,10 @@
 use Rattle.std.proofs.Common.{◌≡◌, ◌∙◌, ap, subst, sym, true}
 use Rattle.td_algebra.proofs.Relations.{IsRelation-view}
 use Rattle.td_eval.proofs.law_lemmas.NewSettings.{new_settings_extend}
-use Rattle.td_tree.specs.Outcomes.{Answers, Valued}
+use Rattle.td_tree.specs.model.Outcomes.{Answers, Valued}
 use Rattle.td_types.proofs.OutcomeLaws.{valued_is}
-use Rattle.td_types.specs.Headings.{have_no_common}
-use Rattle.td_types.specs.Types.{IsHeading, pack}
+use Rattle.td_types.specs.model.Headings.{have_no_common}
+use Rattle.td_types.specs.model.Types.{IsHeading, pack}
 use Rattle.td_types.specs.code.Views.{pairs_view}
 use Rattle.td_plan.proofs.running.extended.set_by.Goals as goal
 

@@ -1,7 +1,7 @@
 use Rattle.std.proofs.Common.{◌∙◌, refl}
 use Rattle.td_plan.proofs.SlotLaws.{cells_same}
 use Rattle.td_plan.specs.code.Hands.{slots_of}
-use Rattle.td_plan.specs.Plans.{with_slot}
+use Rattle.td_plan.specs.code.Plans.{with_slot}
 use Rattle.td_plan.proofs.running.hand.entered.Goals as goal
 
 pub returns-clause-outer : goal.returns-clause-outer

@@ -1,7 +1,7 @@
 use Rattle.std.proofs.Common.{◌∙◌, ap, arith}
 use Rattle.td_plan.proofs.SlotLaws.{slots_more, slots_set}
 use Rattle.td_plan.specs.code.Hands.{cells_of, slots_in}
-use Rattle.td_plan.specs.Plans.{with_slot}
+use Rattle.td_plan.specs.code.Plans.{with_slot}
 use Rattle.td_plan.proofs.running.hand.put.Goals as goal
 
 pub returns-then-slot-len : goal.returns-then-slot-len

@@ -1,6 +1,6 @@
 use Rattle.std.proofs.Common.{◌∙◌, ap, map}
-use Rattle.td_body.specs.Bodies.{agreeing}
-use Rattle.td_value.specs.Agreement.{agree_on}
+use Rattle.td_body.specs.model.Bodies.{agreeing}
+use Rattle.td_value.specs.model.Agreement.{agree_on}
 use Rattle.td_plan.proofs.running.look_up.agreeing_tuples.Goals as goal
 
 pub returns : goal.returns

@@ -1,12 +1,12 @@
 use Rattle.std.proofs.Common.{◌≡◌, subst, sym}
 use Rattle.std.specs.Prelude.{IfSome}
-use Rattle.td_body.specs.Bodies.{agreeing}
+use Rattle.td_body.specs.model.Bodies.{agreeing}
 use Rattle.td_eval.proofs.code_lemmas.WalkedExtension.{related}
-use Rattle.td_eval.specs.OperatorValues.{of_relation}
-use Rattle.td_eval.specs.Worlds.{known_outcome}
+use Rattle.td_eval.specs.model.OperatorValues.{of_relation}
+use Rattle.td_eval.specs.model.Worlds.{known_outcome}
 use Rattle.td_plan.proofs.LookUpLaws.{agreeing_found}
 use Rattle.td_plan.specs.code.Hands.{world_around}
-use Rattle.td_tree.specs.Outcomes.{Answers, Valued}
+use Rattle.td_tree.specs.model.Outcomes.{Answers, Valued}
 use Rattle.td_plan.proofs.running.look_up.agreeing_value.Goals as goal
 
 pub returns-in-Some-2 : goal.returns-in-Some-2

@@ -1,5 +1,5 @@
 use Rattle.std.proofs.Common.{◌≡◌, map, take}
-use Rattle.td_value.specs.Agreement.{agree_on}
+use Rattle.td_value.specs.model.Agreement.{agree_on}
 use Rattle.td_plan.proofs.running.look_up.agreements.Given as goal
 
 abbrev pub invariant-loop-row : goal.invariant-loop-row

@@ -1,7 +1,7 @@
 use Rattle.std.specs.Borrow.{Bor}
 use Rattle.td_catalog.specs.code.CatalogViews.{base_view}
 use Rattle.td_catalog.specs.declared.entry.BaseEntry.{BaseEntry}
-use Rattle.td_eval.specs.code.Sights.{world_in}
+use Rattle.td_eval.specs.code.LentWorlds.{world_in}
 use Rattle.td_plan.proofs.LookUpLaws.{base_told}
 use Rattle.td_plan.proofs.running.look_up.base_in.Goals as goal
 

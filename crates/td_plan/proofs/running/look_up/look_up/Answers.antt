@@ -1,9 +1,9 @@
 use Rattle.std.proofs.Common.{◌≡◌, subst}
-use Rattle.td_eval.specs.Worlds.{known_outcome}
+use Rattle.td_eval.specs.model.Worlds.{known_outcome}
 use Rattle.td_plan.proofs.LookUpLaws.{tupled}
 use Rattle.td_plan.specs.code.Hands.{world_around}
-use Rattle.td_plan.specs.Plans.{agreeing_value}
-use Rattle.td_tree.specs.Outcomes.{Answers, Valued}
+use Rattle.td_plan.specs.code.Plans.{agreeing_value}
+use Rattle.td_tree.specs.model.Outcomes.{Answers, Valued}
 use Rattle.td_plan.proofs.running.look_up.look_up.Goals as goal
 
 pub returns : goal.returns

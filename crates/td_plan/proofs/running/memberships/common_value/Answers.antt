@@ -1,11 +1,11 @@
 use Rattle.std.proofs.Common.{◌∙◌, Bor, ap, subst, sym}
 use Rattle.td_plan.proofs.SlotLaws.{agree_below}
-use Rattle.td_plan.specs.Plans.{plan_value}
+use Rattle.td_plan.specs.code.Plans.{plan_value}
 use Rattle.td_plan.specs.code.Hands.{slots_in, slots_inside}
 use Rattle.td_plan.specs.code.Memos.{IsPart, IsSound}
 use Rattle.td_plan.specs.code.Quick.{IsQuick}
 use Rattle.td_plan.specs.code.StepViews.{step_view}
-use Rattle.td_value.specs.Values.{Val}
+use Rattle.td_value.specs.model.Values.{Val}
 use Rattle.td_value.specs.code.Views.{values_of}
 use Rattle.td_plan.proofs.running.memberships.common_value.Goals as goal
 

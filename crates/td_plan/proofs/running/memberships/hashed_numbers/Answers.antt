@@ -4,7 +4,7 @@ use Rattle.std.proofs.lemmas.Int.{to_z-of_z}
 use Rattle.std.proofs.lemmas.List.{get_or_default, take_all}
 use Rattle.std.specs.Ordering.{int_cmp, int_eq}
 use mir.Syntax.{w64}
-use Rattle.td_value.specs.Sets.{has}
+use Rattle.td_value.specs.model.Sets.{has}
 use Rattle.td_plan.proofs.Memberships.{one_hashed}
 use Rattle.td_plan.proofs.running.memberships.hashed_numbers.Goals as goal
 

@@ -2,9 +2,9 @@ use Rattle.std.proofs.Common.{◌∙◌, ap}
 use Rattle.std.proofs.lemmas.Cmp.{eq_by_cmp_equiv}
 use Rattle.std.proofs.lemmas.List.{take_all}
 use Rattle.std.specs.Ordering.{eq_by_cmp}
-use Rattle.td_value.specs.Sets.{has}
-use Rattle.td_value.specs.Values.{tuple_cmp}
-use Rattle.td_value.specs.ValueOrder.{tuple_order_total}
+use Rattle.td_value.specs.model.Sets.{has}
+use Rattle.td_value.specs.model.Values.{tuple_cmp}
+use Rattle.td_value.specs.code.ValueOrder.{tuple_order_total}
 use Rattle.td_plan.proofs.Memberships.{one_hashed}
 use Rattle.td_plan.proofs.running.memberships.hashed_tuples.Goals as goal
 

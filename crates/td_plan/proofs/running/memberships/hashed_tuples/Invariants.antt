@@ -1,8 +1,8 @@
 use Rattle.std.proofs.Common.{◌≡◌, take}
 use Rattle.std.specs.HashSet.{contains}
 use Rattle.std.specs.Ordering.{eq_by_cmp}
-use Rattle.td_value.specs.Sets.{has}
-use Rattle.td_value.specs.Values.{Tuple, tuple_cmp}
+use Rattle.td_value.specs.model.Sets.{has}
+use Rattle.td_value.specs.model.Values.{Tuple, tuple_cmp}
 use Rattle.td_plan.proofs.running.memberships.hashed_tuples.Given as goal
 
 abbrev pub invariant-loop-row : goal.invariant-loop-row

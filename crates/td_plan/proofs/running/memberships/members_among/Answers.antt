@@ -3,8 +3,8 @@ use Rattle.std.proofs.lemmas.List.{map-append, take_all, take_more}
 use Rattle.std.specs.HashSet.{contains}
 use Rattle.std.specs.List.{All}
 use Rattle.std.specs.Ordering.{eq_by_cmp}
-use Rattle.td_value.specs.Sets.{has}
-use Rattle.td_value.specs.Values.{IsTupleOf, Tuple, tuple_cmp}
+use Rattle.td_value.specs.model.Sets.{has}
+use Rattle.td_value.specs.model.Values.{IsTupleOf, Tuple, tuple_cmp}
 use Rattle.td_plan.proofs.Memberships.{members_in_rows}
 use Rattle.td_plan.proofs.Granted.{granted, pushed}
 use Rattle.td_plan.proofs.running.memberships.members_among.Goals as goal

@@ -1,6 +1,6 @@
 use Rattle.std.proofs.Common.{◌≡◌, map, take}
-use Rattle.td_value.specs.Sets.{has}
-use Rattle.td_value.specs.Values.{tuple_cmp}
+use Rattle.td_value.specs.model.Sets.{has}
+use Rattle.td_value.specs.model.Values.{tuple_cmp}
 use Rattle.td_plan.proofs.running.memberships.members_among.Given as goal
 
 abbrev pub invariant-loop-tuple : goal.invariant-loop-tuple

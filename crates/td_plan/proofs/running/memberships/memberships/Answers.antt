@@ -3,7 +3,7 @@ use Rattle.td_plan.proofs.QuickRows.{of_plan}
 use Rattle.td_plan.proofs.StepParts.{dyadic_made}
 use Rattle.td_plan.specs.declared.plan.step.Dyadic.TheVariants as dyadics
 use Rattle.td_tree.specs.declared.operator.Comparison.TheVariants as comparisons
-use Rattle.td_value.specs.Values.{boolean}
+use Rattle.td_value.specs.model.Values.{boolean}
 use Rattle.td_plan.proofs.running.memberships.memberships.Goals as goal
 
 pub returns-in-In : goal.returns-in-In

@@ -1,10 +1,10 @@
 use Rattle.std.proofs.Common.{◌≡◌, ◌∙◌, ap, sym}
 use Rattle.td_plan.proofs.Memberships.{membership_inside}
 use Rattle.td_plan.proofs.StepParts.{select_made}
-use Rattle.td_plan.specs.Plans as plans
+use Rattle.td_plan.specs.code.Plans as plans
 use Rattle.td_plan.specs.code.StepViews.{selector_view, step_view, steps_view}
-use Rattle.td_tree.specs.Outcomes.{Valued}
-use Rattle.td_value.specs.Values.{relation_value}
+use Rattle.td_tree.specs.model.Outcomes.{Valued}
+use Rattle.td_value.specs.model.Values.{relation_value}
 use Rattle.td_value.specs.code.Views.{node_view}
 use Rattle.td_plan.proofs.running.memberships.memberships_in.Goals as goal
 

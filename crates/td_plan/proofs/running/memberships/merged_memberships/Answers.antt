@@ -3,7 +3,7 @@ use Rattle.std.proofs.lemmas.Int.{to_z-of_z}
 use Rattle.std.proofs.lemmas.List.{get_or_default, map-append, take_all, take_more}
 use Rattle.std.specs.Ordering.{int_cmp}
 use mir.Syntax.{w64}
-use Rattle.td_value.specs.Sets.{has}
+use Rattle.td_value.specs.model.Sets.{has}
 use Rattle.td_plan.proofs.Granted.{pushed}
 use Rattle.td_plan.proofs.running.memberships.merged_memberships.Goals as goal
 

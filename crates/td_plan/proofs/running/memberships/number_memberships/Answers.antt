@@ -1,16 +1,16 @@
 use Rattle.std.proofs.Common.{◌≡◌, ◌∙◌, ◌∷◌, [], arith, subst, sym}
 use Rattle.std.specs.List.{slice_get}
-use Rattle.td_eval.specs.OperatorValues.{comparison_value}
+use Rattle.td_eval.specs.model.OperatorValues.{comparison_value}
 use Rattle.td_plan.proofs.Memberships.{numbers_ascend, numbers_in_rows, one_item, rows_of_one}
 use Rattle.td_plan.proofs.SoundSteps.{sound_at}
-use Rattle.td_plan.specs.Plans.{value_or}
+use Rattle.td_plan.specs.code.Plans.{value_or}
 use Rattle.td_plan.specs.code.Memberships.{tuple_inside}
 use Rattle.td_plan.specs.code.Quick.{AreInRows, AreQuick}
 use Rattle.td_plan.specs.code.QuickInside.{value_inside}
 use Rattle.td_tree.specs.declared.operator.Comparison.TheVariants as comparisons
-use Rattle.td_tree.specs.Outcomes.{with_value}
-use Rattle.td_types.specs.Types as types
-use Rattle.td_value.specs.Values.{IsAscendingBody, Tuple, Val, boolean, integer, relation_value}
+use Rattle.td_tree.specs.model.Outcomes.{with_value}
+use Rattle.td_types.specs.model.Types as types
+use Rattle.td_value.specs.model.Values.{IsAscendingBody, Tuple, Val, boolean, integer, relation_value}
 use Rattle.td_value.specs.code.Views.{values_of}
 use Rattle.td_plan.proofs.running.memberships.number_memberships.Goals as goal
 

@@ -2,7 +2,7 @@ use Rattle.std.proofs.Common.{◌≡◌, ◌∙◌, ◌++◌, ◌∷◌, [], ℤ
 use Rattle.std.proofs.lemmas.List.{get_or_default, map-append, take_all, take_more}
 use Rattle.std.specs.HashSet.{contains}
 use Rattle.std.specs.Ordering.{eq_by_cmp, int_cmp}
-use Rattle.td_value.specs.Sets.{has}
+use Rattle.td_value.specs.model.Sets.{has}
 use Rattle.td_plan.proofs.Granted.{granted, pushed}
 use Rattle.td_plan.proofs.running.memberships.numbers_among.Goals as goal
 

@@ -1,6 +1,6 @@
 use Rattle.std.proofs.Common.{◌≡◌, map, take}
 use Rattle.std.specs.Ordering.{int_cmp}
-use Rattle.td_value.specs.Sets.{has}
+use Rattle.td_value.specs.model.Sets.{has}
 use Rattle.td_plan.proofs.running.memberships.numbers_among.Given as goal
 
 abbrev pub invariant-loop-number : goal.invariant-loop-number

@@ -5,7 +5,7 @@ use Rattle.td_plan.proofs.RunLaws.{values_found}
 use Rattle.td_plan.proofs.SoundSteps.{sound_at}
 use Rattle.td_plan.specs.code.Hands.{slots_of}
 use Rattle.td_plan.specs.code.Runs.{step_value}
-use Rattle.td_tree.specs.Outcomes.{Valued, gathered}
+use Rattle.td_tree.specs.model.Outcomes.{Valued, gathered}
 use Rattle.td_plan.proofs.Granted.{granted, pushed}
 use Rattle.td_plan.proofs.running.memberships.put_parts.Goals as goal
 

@@ -2,10 +2,10 @@ use Rattle.std.proofs.Common.{◌≡◌, ◌∙◌, ◌++◌, ◌∷◌, [], ap,
 use Rattle.std.specs.List.{zip}
 use Rattle.td_algebra.specs.code.Layouts.{AreInRange, numbered_sources, placed_tuple}
 use Rattle.td_eval.proofs.code_lemmas.FixedElements.{placed_is, row_in_range, tuple_made}
-use Rattle.td_eval.specs.OperatorValues.{tuple_from}
+use Rattle.td_eval.specs.model.OperatorValues.{tuple_from}
 use Rattle.td_plan.proofs.Granted.{if_granted}
-use Rattle.td_tree.specs.Outcomes.{with_value}
-use Rattle.td_value.specs.Values.{tuple_of}
+use Rattle.td_tree.specs.model.Outcomes.{with_value}
+use Rattle.td_value.specs.model.Values.{tuple_of}
 use Rattle.td_plan.proofs.running.memberships.put_tuple.Goals as goal
 
 pub put-requires : goal.put-requires

@@ -9,8 +9,8 @@ use Rattle.td_plan.proofs.SlotLaws.{agree_below}
 use Rattle.td_plan.specs.code.Hands.{slots_in, slots_inside}
 use Rattle.td_plan.specs.code.Memberships.{tuple_in_slots, tuple_inside}
 use Rattle.td_plan.specs.code.Memos.{IsMemo}
-use Rattle.td_tree.specs.Outcomes.{Valued}
-use Rattle.td_value.specs.Values.{Tuple, tuple_value}
+use Rattle.td_tree.specs.model.Outcomes.{Valued}
+use Rattle.td_value.specs.model.Values.{Tuple, tuple_value}
 use Rattle.td_value.specs.code.Views.{values_of}
 use Rattle.td_plan.proofs.running.memberships.tuples_of.Goals as goal
 

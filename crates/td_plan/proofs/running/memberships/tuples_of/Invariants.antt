@@ -1,10 +1,10 @@
 use Rattle.std.proofs.Common.{◌≡◌, take}
-use Rattle.td_eval.specs.Worlds.{World}
+use Rattle.td_eval.specs.model.Worlds.{World}
 use Rattle.td_plan.specs.code.Memberships.{tuple_inside}
 use Rattle.td_plan.specs.code.Memos.{AreSound, Parts}
 use Rattle.td_plan.specs.code.Quick.{AreInRows}
 use Rattle.td_plan.specs.code.QuickInside.{IsMemoInside}
-use Rattle.td_value.specs.Values.{tuple_value}
+use Rattle.td_value.specs.model.Values.{tuple_value}
 use Rattle.td_plan.proofs.running.memberships.tuples_of.Given as goal
 
 abbrev pub invariant-loop-row : goal.invariant-loop-row

@@ -1,8 +1,8 @@
 use Rattle.std.proofs.Common.{◌≡◌, ◌<◌, ℕ, length}
 use Rattle.std.specs.List.{slice_get}
 use Rattle.td_plan.specs.code.Memos.{AreKept, Parts, Reaches}
-use Rattle.td_plan.specs.Plans.{Slots}
-use Rattle.td_eval.specs.Worlds.{World}
+use Rattle.td_plan.specs.code.Plans.{Slots}
+use Rattle.td_eval.specs.model.Worlds.{World}
 use Rattle.td_plan.proofs.running.memo.forget_all.Given as goal
 
 abbrev pub invariant-loop-place : goal.invariant-loop-place

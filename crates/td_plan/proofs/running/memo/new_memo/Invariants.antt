@@ -1,7 +1,7 @@
 use Rattle.std.proofs.Common.{ℕ}
 use Rattle.td_plan.specs.code.Memos.{AreKept, AreWithin, Parts}
-use Rattle.td_plan.specs.Plans.{Slots}
-use Rattle.td_eval.specs.Worlds.{World}
+use Rattle.td_plan.specs.code.Plans.{Slots}
+use Rattle.td_eval.specs.model.Worlds.{World}
 use Rattle.td_plan.proofs.running.memo.new_memo.Given as goal
 
 abbrev pub invariant-loop-place : goal.invariant-loop-place

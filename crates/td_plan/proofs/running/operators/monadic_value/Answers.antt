@@ -1,11 +1,11 @@
 use Rattle.std.proofs.Common.{◌∙◌, subst, sym}
 use Rattle.std.specs.Rc.{rc_str_bytes}
-use Rattle.td_eval.specs.OperatorValues.{component_value}
+use Rattle.td_eval.specs.model.OperatorValues.{component_value}
 use Rattle.td_plan.proofs.RunLaws.{types_known}
-use Rattle.td_plan.specs.Plans.{monadic_value}
+use Rattle.td_plan.specs.code.Plans.{monadic_value}
 use Rattle.td_plan.specs.code.Hands.{world_around}
 use Rattle.td_plan.specs.code.StepViews.{monadic_view}
-use Rattle.td_tree.specs.Outcomes.{Answers}
+use Rattle.td_tree.specs.model.Outcomes.{Answers}
 use Rattle.td_plan.proofs.running.operators.monadic_value.Goals as goal
 
 pub returns-in-Component : goal.returns-in-Component

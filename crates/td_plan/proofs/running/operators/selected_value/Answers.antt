@@ -1,9 +1,9 @@
 use Rattle.std.proofs.Common.{refl, subst, sym}
-use Rattle.td_eval.specs.OperatorValues.{headed_value}
-use Rattle.td_plan.specs.Plans.{selected_value}
+use Rattle.td_eval.specs.model.OperatorValues.{headed_value}
+use Rattle.td_plan.specs.code.Plans.{selected_value}
 use Rattle.td_plan.specs.code.Hands.{world_around}
 use Rattle.td_plan.specs.code.StepViews.{selector_view}
-use Rattle.td_tree.specs.Outcomes.{Answers, Valued}
+use Rattle.td_tree.specs.model.Outcomes.{Answers, Valued}
 use Rattle.td_plan.proofs.running.operators.selected_value.Goals as goal
 
 pub returns-in_ok-try_clone-in-HeadedRelation : goal.returns-in_ok-try_clone-in-HeadedRelation

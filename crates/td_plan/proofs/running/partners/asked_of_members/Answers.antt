@@ -1,12 +1,12 @@
 use Rattle.std.proofs.Common.{◌∙◌, ap}
-use Rattle.td_algebra.specs.Operators.{difference, intersection}
-use Rattle.td_check.specs.OperatorTypes.{same_heading}
+use Rattle.td_algebra.specs.model.Operators.{difference, intersection}
+use Rattle.td_check.specs.model.OperatorTypes.{same_heading}
 use Rattle.td_eval.proofs.code_lemmas.TypedValues.{same_is}
 use Rattle.td_plan.proofs.PartnerValues.{included_members, made_where}
 use Rattle.td_plan.specs.declared.plan.step.Dyadic.TheVariants as dyadics
-use Rattle.td_plan.specs.Plans.{dyadic_value}
+use Rattle.td_plan.specs.code.Plans.{dyadic_value}
 use Rattle.td_plan.specs.code.StepViews.{dyadic_view}
-use Rattle.td_value.specs.Values.{relation_value}
+use Rattle.td_value.specs.model.Values.{relation_value}
 use Rattle.td_plan.proofs.running.partners.asked_of_members.Goals as goal
 
 pub returns-in-LessOrEqual : goal.returns-in-LessOrEqual

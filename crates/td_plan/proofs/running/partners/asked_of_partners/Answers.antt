@@ -1,11 +1,11 @@
 use Rattle.std.proofs.Common.{◌∙◌, ap}
-use Rattle.td_algebra.specs.Operators.{semidifference, semijoin}
+use Rattle.td_algebra.specs.model.Operators.{semidifference, semijoin}
 use Rattle.td_plan.proofs.PartnerValues.{made_where}
 use Rattle.td_plan.specs.declared.plan.step.Dyadic.TheVariants as dyadics
-use Rattle.td_plan.specs.Plans.{dyadic_value}
+use Rattle.td_plan.specs.code.Plans.{dyadic_value}
 use Rattle.td_plan.specs.code.StepViews.{dyadic_view}
-use Rattle.td_types.specs.Headings.{agree}
-use Rattle.td_value.specs.Values.{relation_value}
+use Rattle.td_types.specs.model.Headings.{agree}
+use Rattle.td_value.specs.model.Values.{relation_value}
 use Rattle.td_plan.proofs.running.partners.asked_of_partners.Goals as goal
 
 pub returns-in-Matching : goal.returns-in-Matching

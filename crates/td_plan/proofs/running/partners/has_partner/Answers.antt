@@ -1,9 +1,9 @@
 use Rattle.std.proofs.Common.{◌≡◌, ◌∙◌, ap, filter, length, not, subst}
 use Rattle.std.specs.List.{slice_get}
 use Rattle.std.specs.Prelude.{◌==◌, IfSome}
-use Rattle.td_body.specs.Bodies.{agreeing}
+use Rattle.td_body.specs.model.Bodies.{agreeing}
 use Rattle.td_plan.proofs.PartnerLaws.{partner_found}
-use Rattle.td_value.specs.Agreement.{agree_on}
+use Rattle.td_value.specs.model.Agreement.{agree_on}
 use Rattle.td_plan.proofs.running.partners.has_partner.Goals as goal
 
 pub returns : goal.returns

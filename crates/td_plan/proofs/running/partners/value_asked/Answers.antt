@@ -2,12 +2,12 @@ use Rattle.std.proofs.Common.{◌≡◌, ◌∙◌, Bool, ap, map, not, sym}
 use Rattle.std.proofs.lemmas.List.Folds.{list_all-map}
 use Rattle.std.specs.List.{list_all}
 use Rattle.td_algebra.proofs.Keys.{if_ok}
-use Rattle.td_algebra.specs.Operators.{restriction}
-use Rattle.td_eval.specs.OperatorValues.{of_relation, of_truth}
+use Rattle.td_algebra.specs.model.Operators.{restriction}
+use Rattle.td_eval.specs.model.OperatorValues.{of_relation, of_truth}
 use Rattle.td_plan.proofs.PartnerLaws.{none_told}
 use Rattle.td_plan.specs.code.Partners.{asked_value}
-use Rattle.td_tree.specs.Outcomes.{Valued}
-use Rattle.td_value.specs.Values.{Tuple}
+use Rattle.td_tree.specs.model.Outcomes.{Valued}
+use Rattle.td_value.specs.model.Values.{Tuple}
 use Rattle.td_plan.proofs.running.partners.value_asked.Goals as goal
 
 pub returns-in-All : goal.returns-in-All

@@ -1,11 +1,11 @@
 use Rattle.std.proofs.Common.{◌≡◌, ◌∙◌, refl, subst, sym}
 use Rattle.std.specs.Prelude.{IfSome}
-use Rattle.td_eval.specs.Worlds.{known_outcome}
+use Rattle.td_eval.specs.model.Worlds.{known_outcome}
 use Rattle.td_plan.proofs.PartnerValues.{beside_projection, found_then}
 use Rattle.td_plan.specs.code.Hands.{world_around}
 use Rattle.td_plan.specs.code.StepViews.{dyadic_view}
-use Rattle.td_tree.specs.Outcomes.{Valued}
-use Rattle.td_types.specs.Headings.{projected_heading}
+use Rattle.td_tree.specs.model.Outcomes.{Valued}
+use Rattle.td_types.specs.model.Headings.{projected_heading}
 use Rattle.td_plan.proofs.running.partners.value_beside_projection.Goals as goal
 
 pub returns-in-Some-2 : goal.returns-in-Some-2

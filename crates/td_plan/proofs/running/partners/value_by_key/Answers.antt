@@ -1,10 +1,10 @@
 use Rattle.std.proofs.Common.{◌≡◌, ◌∙◌, ap, sym}
 use Rattle.td_plan.proofs.PartnerValues.{found_then, value_of_related}
-use Rattle.td_plan.specs.Plans as plans
+use Rattle.td_plan.specs.code.Plans as plans
 use Rattle.td_plan.specs.code.Hands.{world_around}
 use Rattle.td_plan.specs.code.Partners.{value_beside}
 use Rattle.td_plan.specs.code.StepViews.{dyadic_view, step_view}
-use Rattle.td_tree.specs.Trees.{only, project}
+use Rattle.td_tree.specs.model.Trees.{only, project}
 use Rattle.td_plan.proofs.running.partners.value_by_key.Goals as goal
 
 pub returns-in-Relvar : goal.returns-in-Relvar

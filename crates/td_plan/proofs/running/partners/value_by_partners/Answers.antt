@@ -4,9 +4,9 @@ use Rattle.std.specs.List.{All}
 use Rattle.td_algebra.proofs.Projections.{IsTupleOf-projected}
 use Rattle.td_plan.proofs.PartnerLaws.{partners_on_part}
 use Rattle.td_plan.specs.code.Partners.{IsPartOn, has_partner}
-use Rattle.td_types.specs.Headings.{projection}
-use Rattle.td_types.specs.Types.{attribute_names}
-use Rattle.td_value.specs.Values.{IsTupleOf}
+use Rattle.td_types.specs.model.Headings.{projection}
+use Rattle.td_types.specs.model.Types.{attribute_names}
+use Rattle.td_value.specs.model.Values.{IsTupleOf}
 use Rattle.td_plan.proofs.running.partners.value_by_partners.Goals as goal
 
 pub have_partners-requires-clause-headed : goal.have_partners-requires-clause-headed

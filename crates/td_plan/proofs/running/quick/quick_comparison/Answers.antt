@@ -1,10 +1,10 @@
 use Rattle.std.proofs.Common.{◌≡◌, subst, sym}
-use Rattle.td_eval.specs.OperatorValues.{comparison_value}
+use Rattle.td_eval.specs.model.OperatorValues.{comparison_value}
 use Rattle.td_plan.specs.code.Hands.{slots_of}
 use Rattle.td_plan.specs.code.Quick.{IsQuick}
 use Rattle.td_plan.specs.code.Runs.{step_value}
-use Rattle.td_tree.specs.Outcomes.{Valued, with_both}
-use Rattle.td_value.specs.Values.{boolean, char}
+use Rattle.td_tree.specs.model.Outcomes.{Valued, with_both}
+use Rattle.td_value.specs.model.Values.{boolean, char}
 use Rattle.td_plan.proofs.running.quick.quick_comparison.Goals as goal
 
 pub returns : goal.returns

@@ -1,7 +1,7 @@
 use Rattle.std.proofs.Common.{◌≡◌, ◌∙◌, ◌+◌, ◌<◌, ◌≤◌, ap, arith, drop, length, refl, subst, suc}
 use Rattle.td_plan.proofs.BoundRuns.{GoesOn, items_here, next_entered, none_left}
 use Rattle.td_plan.proofs.SoundSteps.{sound_at}
-use Rattle.td_plan.specs.Plans.{plan_where_bound}
+use Rattle.td_plan.specs.code.Plans.{plan_where_bound}
 use Rattle.td_plan.specs.code.Hands.{slots_in}
 use Rattle.td_plan.specs.code.StepViews.{steps_view}
 use Rattle.td_plan.proofs.running.quick_bound.put_all_kept.Goals as goal

@@ -1,5 +1,5 @@
 use Rattle.std.proofs.Common.{◌+◌, drop}
-use Rattle.td_eval.specs.Worlds.{World}
+use Rattle.td_eval.specs.model.Worlds.{World}
 use Rattle.td_plan.proofs.BoundRuns.{GoesOn}
 use Rattle.td_plan.specs.code.Hands.{slots_in}
 use Rattle.td_plan.specs.code.Memos.{AreSound, IsMemoBelow, Parts}

@@ -1,7 +1,7 @@
 use Rattle.std.proofs.Common.{◌∙◌, ap, refl}
 use Rattle.td_plan.proofs.BoundRuns.{item_kept}
 use Rattle.td_plan.proofs.Granted.{granted, if_granted}
-use Rattle.td_plan.specs.Plans.{with_slot}
+use Rattle.td_plan.specs.code.Plans.{with_slot}
 use Rattle.td_plan.specs.code.Hands.{slots_in}
 use Rattle.td_value.specs.code.Views.{values_of}
 use Rattle.td_plan.proofs.running.quick_bound.put_kept.Goals as goal

@@ -3,14 +3,14 @@ use Rattle.std.specs.List.{slice_get}
 use Rattle.td_plan.proofs.QuickRows.{of_attribute, of_bound, of_outer, of_plan}
 use Rattle.td_plan.proofs.StepParts.{bound_apart, bound_made, dyadic_made}
 use Rattle.td_plan.specs.declared.plan.step.Dyadic.TheVariants as dyadics
-use Rattle.td_plan.specs.Plans as plans
+use Rattle.td_plan.specs.code.Plans as plans
 use Rattle.td_plan.specs.code.Hands.{slots_in}
 use Rattle.td_plan.specs.code.Memos.{IsPart, IsSound}
 use Rattle.td_plan.specs.code.Quick.{AreInRows, IsQuick}
 use Rattle.td_plan.specs.code.QuickInside.{value_inside}
 use Rattle.td_plan.specs.code.StepViews.{step_view, steps_view}
-use Rattle.td_tree.specs.Outcomes.{Valued}
-use Rattle.td_value.specs.Values.{Val, integer}
+use Rattle.td_tree.specs.model.Outcomes.{Valued}
+use Rattle.td_value.specs.model.Values.{Val, integer}
 use Rattle.td_plan.proofs.running.quick_numbers.+quick_numbers.Goals as goal
 
 pub returns-in-Constant : goal.returns-in-Constant

@@ -5,8 +5,8 @@ use mir.Syntax.{w64}
 use Rattle.std.specs.List.{slice_get}
 use Rattle.td_plan.proofs.Granted.{pushed}
 use Rattle.td_plan.proofs.QuickRows.{one_more}
-use Rattle.td_plan.specs.Plans.{value_or}
-use Rattle.td_value.specs.Values.{Tuple, integer}
+use Rattle.td_plan.specs.code.Plans.{value_or}
+use Rattle.td_value.specs.model.Values.{Tuple, integer}
 use Rattle.td_value.specs.code.Views.{values_of}
 use Rattle.td_plan.proofs.running.quick_numbers.attribute_numbers.Goals as goal
 

@@ -1,8 +1,8 @@
 use Rattle.std.proofs.Common.{take}
 use Rattle.std.specs.List.{slice_get}
-use Rattle.td_plan.specs.Plans.{value_or}
+use Rattle.td_plan.specs.code.Plans.{value_or}
 use Rattle.td_plan.specs.code.Quick.{AreInRows}
-use Rattle.td_value.specs.Values.{integer}
+use Rattle.td_value.specs.model.Values.{integer}
 use Rattle.td_value.specs.code.Views.{values_of}
 use Rattle.td_plan.proofs.running.quick_numbers.attribute_numbers.Given as goal
 

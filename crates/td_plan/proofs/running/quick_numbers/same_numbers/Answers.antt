@@ -4,7 +4,7 @@ use mir.Syntax.{w64}
 use Rattle.std.proofs.lemmas.Result.{IfOk-weaker}
 use Rattle.td_plan.proofs.Granted.{quick_granted}
 use Rattle.td_plan.proofs.QuickRows.{the_same}
-use Rattle.td_value.specs.Values.{integer}
+use Rattle.td_value.specs.model.Values.{integer}
 use Rattle.td_plan.proofs.running.quick_numbers.same_numbers.Goals as goal
 
 pub returns : goal.returns

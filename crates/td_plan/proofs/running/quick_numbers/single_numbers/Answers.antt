@@ -6,7 +6,7 @@ use Rattle.td_plan.proofs.Granted.{pushed}
 use Rattle.td_plan.proofs.QuickRows.{one_more, quick_inside}
 use Rattle.td_plan.specs.code.Hands.{slots_of}
 use Rattle.td_plan.specs.code.QuickInside.{value_inside}
-use Rattle.td_value.specs.Values.{integer}
+use Rattle.td_value.specs.model.Values.{integer}
 use Rattle.td_plan.proofs.running.quick_numbers.single_numbers.Goals as goal
 
 pub loop-row-preserved : goal.loop-row-preserved

@@ -1,9 +1,9 @@
 use Rattle.std.proofs.Common.{take}
-use Rattle.td_eval.specs.Worlds.{World}
+use Rattle.td_eval.specs.model.Worlds.{World}
 use Rattle.td_plan.specs.code.Memos.{IsSound, Parts}
 use Rattle.td_plan.specs.code.Quick.{AreInRows}
 use Rattle.td_plan.specs.code.QuickInside.{IsMemoInside, value_inside}
-use Rattle.td_value.specs.Values.{integer}
+use Rattle.td_value.specs.model.Values.{integer}
 use Rattle.td_plan.proofs.running.quick_numbers.single_numbers.Given as goal
 
 abbrev pub invariant-loop-row : goal.invariant-loop-row

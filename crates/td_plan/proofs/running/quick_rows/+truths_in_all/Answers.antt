@@ -3,17 +3,17 @@ use Rattle.std.proofs.lemmas.Result.{IfOk-weaker}
 use Rattle.td_plan.proofs.Granted.{quick_granted}
 use Rattle.td_plan.proofs.QuickRows.{negated, of_bound, of_plan}
 use Rattle.td_plan.proofs.StepParts.{bound_apart, bound_made, dyadic_made}
-use Rattle.td_eval.specs.OperatorValues.{prefix_value}
+use Rattle.td_eval.specs.model.OperatorValues.{prefix_value}
 use Rattle.td_plan.specs.declared.plan.step.Dyadic.TheVariants as dyadics
 use Rattle.td_plan.specs.declared.plan.step.Monadic.TheVariants as monadics
-use Rattle.td_plan.specs.Plans as plans
+use Rattle.td_plan.specs.code.Plans as plans
 use Rattle.td_plan.specs.code.Memos.{IsPart, IsSound}
 use Rattle.td_plan.specs.code.Quick.{AreInRows}
 use Rattle.td_plan.specs.code.QuickInside.{value_inside}
 use Rattle.td_plan.specs.code.StepViews.{monadic_view, step_view, steps_view}
-use Rattle.td_tree.specs.Outcomes.{with_value}
+use Rattle.td_tree.specs.model.Outcomes.{with_value}
 use Rattle.td_tree.specs.declared.operator.Prefix.TheVariants as prefixes
-use Rattle.td_value.specs.Values.{boolean}
+use Rattle.td_value.specs.model.Values.{boolean}
 use Rattle.td_plan.proofs.running.quick_rows.+truths_in_all.Goals as goal
 
 pub returns-in-Some : goal.returns-in-Some

@@ -4,10 +4,10 @@ use Rattle.std.proofs.lemmas.List.{get_or_default, take_all}
 use mir.Syntax.{w64}
 use Rattle.std.specs.List.{zip}
 use Rattle.td_eval.proofs.code_lemmas.WalkedColumns.{beside_at, beside_past, beside_within}
-use Rattle.td_eval.specs.OperatorValues.{comparison_value}
+use Rattle.td_eval.specs.model.OperatorValues.{comparison_value}
 use Rattle.td_plan.proofs.Granted.{pushed}
 use Rattle.td_plan.proofs.QuickRows.{of_both, of_two, one_more}
-use Rattle.td_value.specs.Values.{boolean, integer}
+use Rattle.td_value.specs.model.Values.{boolean, integer}
 use Rattle.td_plan.proofs.running.quick_rows.comparisons_of_both.Goals as goal
 
 pub loop-place-preserved : goal.loop-place-preserved

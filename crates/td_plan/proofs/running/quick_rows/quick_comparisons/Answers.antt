@@ -1,7 +1,7 @@
 use Rattle.std.proofs.Common.{subst, sym}
 use Rattle.td_plan.specs.code.Quick.{AreInRows}
 use Rattle.td_plan.specs.code.QuickInside.{value_inside}
-use Rattle.td_value.specs.Values.{integer}
+use Rattle.td_value.specs.model.Values.{integer}
 use Rattle.td_plan.proofs.running.quick_rows.quick_comparisons.Goals as goal
 
 pub returns : goal.returns

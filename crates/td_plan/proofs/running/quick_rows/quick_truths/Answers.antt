@@ -2,7 +2,7 @@ use Rattle.std.proofs.Common.{◌∙◌, refl, sym}
 use Rattle.td_plan.proofs.Granted.{granted, pushed}
 use Rattle.td_plan.proofs.QuickRows.{no_rest, part_more}
 use Rattle.td_plan.specs.code.QuickInside.{value_inside}
-use Rattle.td_value.specs.Values.{boolean}
+use Rattle.td_value.specs.model.Values.{boolean}
 use Rattle.td_plan.proofs.running.quick_rows.quick_truths.Goals as goal
 
 pub loop-rest-init : goal.loop-rest-init

@@ -1,9 +1,9 @@
 use Rattle.std.proofs.Common.{◌≡◌, ◌++◌, length, map}
-use Rattle.td_eval.specs.Worlds.{World}
+use Rattle.td_eval.specs.model.Worlds.{World}
 use Rattle.td_plan.specs.code.Memos.{IsSound, Parts}
 use Rattle.td_plan.specs.code.QuickInside.{IsMemoInside, value_inside}
-use Rattle.td_tree.specs.Outcomes.{Valued}
-use Rattle.td_value.specs.Values.{boolean}
+use Rattle.td_tree.specs.model.Outcomes.{Valued}
+use Rattle.td_value.specs.model.Values.{boolean}
 use Rattle.td_plan.proofs.running.quick_rows.quick_truths.Given as goal
 
 abbrev pub invariant-loop-rest : goal.invariant-loop-rest

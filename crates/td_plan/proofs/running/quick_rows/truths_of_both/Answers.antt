@@ -2,10 +2,10 @@ use Rattle.std.proofs.Common.{◌∙◌, ap, arith, map, sym, get_or, false}
 use Rattle.std.proofs.lemmas.List.{get_or_default, take_all}
 use Rattle.std.specs.List.{zip}
 use Rattle.td_eval.proofs.code_lemmas.WalkedColumns.{beside_at, beside_past, beside_within}
-use Rattle.td_eval.specs.OperatorValues.{operator_value}
+use Rattle.td_eval.specs.model.OperatorValues.{operator_value}
 use Rattle.td_plan.proofs.Granted.{pushed}
 use Rattle.td_plan.proofs.QuickRows.{of_both, of_two, one_more}
-use Rattle.td_value.specs.Values.{boolean}
+use Rattle.td_value.specs.model.Values.{boolean}
 use Rattle.td_plan.proofs.running.quick_rows.truths_of_both.Goals as goal
 
 pub loop-place-preserved : goal.loop-place-preserved

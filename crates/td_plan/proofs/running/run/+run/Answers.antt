@@ -1,16 +1,16 @@
 use Rattle.std.proofs.Common.{◌∙◌, ap, arith, subst, sym}
 use Rattle.td_plan.proofs.StepParts.{bound_made, by_made, extend_made, made_ready, made_run, per_made, select_made}
-use Rattle.td_plan.specs.code.Hands.{AreSurroundings, slots_of, world_around}
+use Rattle.td_plan.specs.code.Hands.{IsPlanWorld, slots_of, world_around}
 use Rattle.td_plan.specs.code.Memos.{AreSound, Keeps}
 use Rattle.td_plan.specs.code.Runs.{step_values}
-use Rattle.td_tree.specs.Outcomes.{Answers, gathered}
+use Rattle.td_tree.specs.model.Outcomes.{Answers, gathered}
 use Rattle.td_plan.proofs.running.run.+run.Goals as goal
 
 pub values_of-requires-clause-below : goal.values_of-requires-clause-below
 values_of-requires-clause-below g t c =
     let made = select_made c.args.step.now c.in-Select.parts c.deref-in-Select.result.now c.deref-in-Select.ensures.value c.in-Select.selector c.in-Select.is in
     let h = made.height in
-    record { callable = λ memo hand step low ready. (omega (arith, c.decreases, h, low), (λ a m. m, (subst (λ a. AreSurroundings a) (sym c.new-inner.ensures.around) c.requires.around, ready))); values = λ memo hand step answer after p. p }
+    record { callable = λ memo hand step low ready. (omega (arith, c.decreases, h, low), (λ a m. m, (subst (λ a. IsPlanWorld a) (sym c.new-inner.ensures.around) c.requires.around, ready))); values = λ memo hand step answer after p. p }
 
 pub values_of-requires-clause-ready : goal.values_of-requires-clause-ready
 values_of-requires-clause-ready g t c =
@@ -31,7 +31,7 @@ extension-requires-clause-below g t c =
     let made = extend_made c.args.step.now c.in-Extend.values c.deref-in-Extend-3.result.now c.deref-in-Extend-3.ensures.value c.in-Extend.operand c.deref-in-Extend.result.now c.in-Extend.attributes c.deref-in-Extend-2.result.now c.in-Extend.slot
     c.in-Extend.is c.deref-in-Extend.ensures c.deref-in-Extend-2.ensures.value in
     let h = made.height in
-    record { callable = λ memo hand step low ready. (omega (arith, c.decreases, h, low), (λ a m. m, (subst (λ a. AreSurroundings a) (sym c.new-inner.ensures.around) c.requires.around, ready))); values = λ memo hand step answer after p. p }
+    record { callable = λ memo hand step low ready. (omega (arith, c.decreases, h, low), (λ a m. m, (subst (λ a. IsPlanWorld a) (sym c.new-inner.ensures.around) c.requires.around, ready))); values = λ memo hand step answer after p. p }
 
 pub extension-requires-clause-ready : goal.extension-requires-clause-ready
 extension-requires-clause-ready g t c =
@@ -53,7 +53,7 @@ summary_per-requires-clause-below g t c =
     c.in-SummarizePer.aggregates c.new-items.result.aggregates.now c.in-SummarizePer.slot c.new-items.result.slot c.in-SummarizePer.is c.deref-in-SummarizePer-4.ensures c.deref-in-SummarizePer-5.ensures
     (c.new-items.ensures.attributes ∙ c.deref-in-SummarizePer.ensures.value) (c.new-items.ensures.aggregates ∙ c.deref-in-SummarizePer-2.ensures.value) c.new-items.ensures.slot in
     let h = made.height in
-    record { callable = λ memo hand step low ready. (omega (arith, c.decreases, h, low), (λ a m. m, (subst (λ a. AreSurroundings a) (sym c.new-inner.ensures.around) c.requires.around, ready))); values = λ memo hand step answer after p. p }
+    record { callable = λ memo hand step low ready. (omega (arith, c.decreases, h, low), (λ a m. m, (subst (λ a. IsPlanWorld a) (sym c.new-inner.ensures.around) c.requires.around, ready))); values = λ memo hand step answer after p. p }
 
 pub summary_per-requires-clause-ready : goal.summary_per-requires-clause-ready
 summary_per-requires-clause-ready g t c =
@@ -79,7 +79,7 @@ summary_by-requires-clause-below g t c =
     c.in-SummarizeBy.aggregates c.new-items-in-SummarizeBy.result.aggregates.now c.in-SummarizeBy.slot c.new-items-in-SummarizeBy.result.slot c.in-SummarizeBy.is c.deref-in-SummarizeBy-4.ensures
     (c.new-items-in-SummarizeBy.ensures.attributes ∙ c.deref-in-SummarizeBy.ensures.value) (c.new-items-in-SummarizeBy.ensures.aggregates ∙ c.deref-in-SummarizeBy-2.ensures.value) c.new-items-in-SummarizeBy.ensures.slot in
     let h = made.height in
-    record { callable = λ memo hand step low ready. (omega (arith, c.decreases, h, low), (λ a m. m, (subst (λ a. AreSurroundings a) (sym c.new-inner.ensures.around) c.requires.around, ready))); values = λ memo hand step answer after p. p }
+    record { callable = λ memo hand step low ready. (omega (arith, c.decreases, h, low), (λ a m. m, (subst (λ a. IsPlanWorld a) (sym c.new-inner.ensures.around) c.requires.around, ready))); values = λ memo hand step answer after p. p }
 
 pub summary_by-requires-clause-ready : goal.summary_by-requires-clause-ready
 summary_by-requires-clause-ready g t c =
@@ -102,7 +102,7 @@ pub bound-requires-clause-below : goal.bound-requires-clause-below
 bound-requires-clause-below g t c =
     let made = bound_made c.args.step.now c.in-Bound.items c.deref-in-Bound.result.now c.deref-in-Bound.ensures.value c.in-Bound.slot _ c.in-Bound.value c.deref-in-Bound-2.result.now c.in-Bound.is c.deref-in-Bound-2.ensures in
     let h = made.height in
-    record { callable = λ memo hand step low ready. (omega (arith, c.decreases, h, low), (λ a m. m, (subst (λ a. AreSurroundings a) (sym c.new-inner.ensures.around) c.requires.around, ready))); values = λ memo hand step answer after p. p }
+    record { callable = λ memo hand step low ready. (omega (arith, c.decreases, h, low), (λ a m. m, (subst (λ a. IsPlanWorld a) (sym c.new-inner.ensures.around) c.requires.around, ready))); values = λ memo hand step answer after p. p }
 
 pub bound-requires-clause-ready : goal.bound-requires-clause-ready
 bound-requires-clause-ready g t c =

@@ -1,10 +1,10 @@
 use Rattle.std.proofs.Common.{◌≡◌, ◌∙◌, ap, subst}
-use Rattle.td_eval.specs.code.Sights.{tuples_in_hand, world_in}
+use Rattle.td_eval.specs.code.LentWorlds.{tuples_in_hand, world_in}
 use Rattle.td_plan.proofs.HandSlots.{hand_slots}
 use Rattle.td_plan.specs.code.Hands.{slots_in, slots_lent, slots_of}
 use Rattle.td_plan.specs.code.PlanViews.{PlanValue}
 use Rattle.td_plan.specs.code.Runs.{step_value}
-use Rattle.td_tree.specs.Outcomes.{Answers}
+use Rattle.td_tree.specs.model.Outcomes.{Answers}
 use Rattle.td_plan.proofs.running.run_plan.run_plan_in.Goals as goal
 
 pub run-requires-clause-ready : goal.run-requires-clause-ready

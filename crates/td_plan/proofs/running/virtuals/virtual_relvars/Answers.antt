@@ -1,5 +1,5 @@
-use Rattle.td_eval.specs.DatabaseWorlds.{world_of}
-use Rattle.td_eval.specs.code.Sights.{world_in}
+use Rattle.td_eval.specs.model.DatabaseWorlds.{world_of}
+use Rattle.td_eval.specs.code.LentWorlds.{world_in}
 use Rattle.td_plan.proofs.VirtualRelvars.{valued_in_both}
 use Rattle.td_plan.proofs.running.virtuals.virtual_relvars.Goals as goal
 

@@ -1,9 +1,9 @@
 use Rattle.std.proofs.Common.{◌≡◌, false, sym, ◌∙◌, subst, arith}
 use Rattle.std.specs.Prelude.{is_some}
-use Rattle.td_types.specs.Types.{IsHeading, pack, type_at}
+use Rattle.td_types.specs.model.Types.{IsHeading, pack, type_at}
 use Rattle.td_types.specs.code.Views.{heading_view, type_view}
-use Rattle.td_tree.specs.Names.{IsName}
-use Rattle.td_types.specs.Headings.{with_attribute}
+use Rattle.td_tree.specs.model.Names.{IsName}
+use Rattle.td_types.specs.model.Headings.{with_attribute}
 use Rattle.td_types.proofs.HeadingLaws.{IsHeading-with}
 use Rattle.td_types.proofs.Attributes.{attributes_of-insert, place_within, found}
 use Rattle.td_types.proofs.heading.Heading.add.Goals as goal

@@ -1,5 +1,5 @@
 use Rattle.std.proofs.Common.{◌≡◌, drop}
-use Rattle.td_types.specs.Headings.{agree}
+use Rattle.td_types.specs.model.Headings.{agree}
 use Rattle.td_types.specs.code.Views.{heading_view}
 use Rattle.td_types.proofs.heading.Heading.agrees_with.Given as goal
 

@@ -1,6 +1,6 @@
 use Rattle.std.proofs.Common.{◌≡◌, ◌++◌, drop}
 use Rattle.std.specs.Prelude.{filter}
-use Rattle.td_types.specs.Headings.{has_attribute}
+use Rattle.td_types.specs.model.Headings.{has_attribute}
 use Rattle.td_types.specs.code.Views.{heading_view}
 use Rattle.td_types.proofs.heading.Heading.common.Given as goal
 

@@ -3,8 +3,8 @@ use Rattle.std.specs.Prelude.{◌||◌, not}
 use Rattle.std.proofs.lemmas.Iterator.{YieldsList-from_slice}
 use Rattle.std.proofs.lemmas.Iterator.Search.{all_from_yields_List}
 use Rattle.std.proofs.lemmas.List.Folds.{list_all-map}
-use Rattle.td_types.specs.Headings.{has_attribute, have_no_common, without_attribute}
-use Rattle.td_types.specs.Types.{same_name}
+use Rattle.td_types.specs.model.Headings.{has_attribute, have_no_common, without_attribute}
+use Rattle.td_types.specs.model.Types.{same_name}
 use Rattle.td_types.specs.code.Views.{attribute_view}
 use Rattle.td_types.specs.declared.heading.Attribute.{Attribute}
 use Rattle.td_types.proofs.Attributes.{found}

@@ -1,5 +1,5 @@
 use Rattle.std.proofs.Common.{◌≡◌, drop}
-use Rattle.td_types.specs.Headings.{is_part}
+use Rattle.td_types.specs.model.Headings.{is_part}
 use Rattle.td_types.specs.code.Views.{heading_view}
 use Rattle.td_types.proofs.heading.Heading.is_part_of.Given as goal
 

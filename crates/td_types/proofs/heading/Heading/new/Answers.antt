@@ -4,10 +4,10 @@ use Rattle.std.specs.List.Sorted.{IsPermutation, IsStrictlySortedBy}
 use Rattle.std.proofs.lemmas.List.Sorted.{IsPermutation-map}
 use Rattle.td_types.specs.declared.ty.Ty.{Ty}
 use Rattle.td_tree.specs.declared.cause.Cause.TheVariants as causes
-use Rattle.td_types.specs.Headings.{are_distinct, heading_from}
+use Rattle.td_types.specs.model.Headings.{are_distinct, heading_from}
 use Rattle.td_types.proofs.HeadingLaws.{name_cmp}
-use Rattle.td_types.specs.TypeOrder.{ty_cmp}
-use Rattle.td_types.specs.Types.{IsAscending, attribute_names, type_at}
+use Rattle.td_types.specs.code.TypeOrder.{ty_cmp}
+use Rattle.td_types.specs.model.Types.{IsAscending, attribute_names, type_at}
 use Rattle.td_types.specs.code.Views.{pairs_view, type_view}
 use Rattle.td_types.proofs.Made.{names_of_pairs, sorted_is_heading_from, type_at-heading_from}
 use Rattle.td_types.proofs.DistinctNames.{Sorted, distinct_permuted, rising, sorted_by_names}

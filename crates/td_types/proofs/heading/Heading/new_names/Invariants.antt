@@ -1,5 +1,5 @@
 use Rattle.std.proofs.Common.{◌≡◌, ◌++◌, drop}
-use Rattle.td_types.specs.Headings.{new_names}
+use Rattle.td_types.specs.model.Headings.{new_names}
 use Rattle.td_types.specs.code.Views.{heading_view}
 use Rattle.td_types.proofs.heading.Heading.new_names.Given as goal
 

@@ -1,7 +1,7 @@
 use Rattle.std.proofs.Common.{◌≡◌, sym, ap, ◌∙◌, subst}
-use Rattle.td_types.specs.Headings.{projection}
+use Rattle.td_types.specs.model.Headings.{projection}
 use Rattle.td_types.proofs.HeadingLaws.{IsHeading-filter, type_at-projection}
-use Rattle.td_types.specs.Types.{IsHeading, pack, type_at}
+use Rattle.td_types.specs.model.Types.{IsHeading, pack, type_at}
 use Rattle.td_types.specs.code.Views.{heading_view}
 use Rattle.td_types.proofs.Attributes.{kept_all}
 use Rattle.td_types.proofs.heading.Heading.project.Goals as goal

@@ -1,7 +1,7 @@
 use Rattle.std.proofs.Common.{ap, ◌∙◌, refl}
-use Rattle.td_types.specs.Headings.{renamed_attributes}
+use Rattle.td_types.specs.model.Headings.{renamed_attributes}
 use Rattle.td_types.proofs.HeadingLaws.{type_at-renamed}
-use Rattle.td_types.specs.Types.{type_at}
+use Rattle.td_types.specs.model.Types.{type_at}
 use Rattle.td_types.specs.code.Views.{heading_view}
 use Rattle.td_types.proofs.Attributes.{added_all}
 use Rattle.td_types.proofs.heading.Heading.rename.Goals as goal

@@ -1,5 +1,5 @@
 use Rattle.std.proofs.Common.{◌≡◌, drop, fold, []}
-use Rattle.td_types.specs.Headings.{add_missing, renamed_attributes}
+use Rattle.td_types.specs.model.Headings.{add_missing, renamed_attributes}
 use Rattle.td_types.specs.code.Views.{heading_view}
 use Rattle.td_types.proofs.heading.Heading.rename.Given as goal
 

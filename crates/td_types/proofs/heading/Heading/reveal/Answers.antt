@@ -1,5 +1,5 @@
 use Rattle.std.proofs.Common.{subst}
-use Rattle.td_types.specs.Types.{IsAscending}
+use Rattle.td_types.specs.model.Types.{IsAscending}
 use Rattle.td_types.proofs.HeadingLaws.{ascending_from_heading}
 use Rattle.td_types.proofs.heading.Heading.reveal.Goals as goal
 

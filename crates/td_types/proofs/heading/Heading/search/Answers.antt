@@ -3,7 +3,7 @@ use Rattle.std.specs.List.Sorted.{IsBinarySearchResult, IsSearchInRange}
 use Rattle.std.proofs.lemmas.Fn.{always_returns_same}
 use Rattle.td_types.specs.declared.heading.Attribute.{Attribute}
 use Rattle.td_types.proofs.HeadingLaws.{ascending_from_heading, name_cmp}
-use Rattle.td_types.specs.Headings.{IsFound, IsMissing}
+use Rattle.td_types.specs.model.Headings.{IsFound, IsMissing}
 use Rattle.td_types.proofs.Search.{searched}
 use Rattle.td_types.proofs.heading.Heading.search.Goals as goal
 

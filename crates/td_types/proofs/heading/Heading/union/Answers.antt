@@ -1,6 +1,6 @@
 use Rattle.std.proofs.Common.{ap, ◌∙◌, refl}
 use Rattle.td_types.proofs.HeadingLaws.{type_at-union}
-use Rattle.td_types.specs.Types.{type_at}
+use Rattle.td_types.specs.model.Types.{type_at}
 use Rattle.td_types.specs.code.Views.{heading_view}
 use Rattle.td_types.proofs.Attributes.{added_all}
 use Rattle.td_types.proofs.heading.Heading.union.Goals as goal

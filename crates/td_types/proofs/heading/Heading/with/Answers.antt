@@ -1,11 +1,11 @@
 use Rattle.std.proofs.Common.{◌≡◌, false, sym, ap, ◌∙◌}
 use Rattle.std.specs.Prelude.{is_some, not}
-use Rattle.td_types.specs.Types.{type_at}
+use Rattle.td_types.specs.model.Types.{type_at}
 use Rattle.td_types.specs.code.Views.{type_view}
 use Rattle.td_types.proofs.HeadingLaws.{type_at-with}
 use Rattle.td_types.proofs.Attributes.{found}
 use Rattle.td_tree.specs.declared.cause.Cause.TheVariants as causes
-use Rattle.td_types.specs.Headings.{with_attribute}
+use Rattle.td_types.specs.model.Headings.{with_attribute}
 use Rattle.td_types.proofs.Valued.{answers_value}
 use Rattle.td_types.proofs.heading.Heading.with.Goals as goal
 

@@ -1,7 +1,7 @@
 use Rattle.std.proofs.Common.{◌≡◌, sym, ap, ◌∙◌, subst}
-use Rattle.td_types.specs.Headings.{without_attribute}
+use Rattle.td_types.specs.model.Headings.{without_attribute}
 use Rattle.td_types.proofs.HeadingLaws.{IsHeading-filter, type_at-without}
-use Rattle.td_types.specs.Types.{IsHeading, pack, type_at}
+use Rattle.td_types.specs.model.Types.{IsHeading, pack, type_at}
 use Rattle.td_types.specs.code.Views.{heading_view}
 use Rattle.td_types.proofs.Attributes.{kept_all}
 use Rattle.td_types.proofs.heading.Heading.without.Goals as goal

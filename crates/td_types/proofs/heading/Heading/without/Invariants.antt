@@ -1,6 +1,6 @@
 use Rattle.std.proofs.Common.{◌≡◌, ◌++◌, drop}
 use Rattle.std.specs.Prelude.{filter, not}
-use Rattle.td_types.specs.Types.{same_name}
+use Rattle.td_types.specs.model.Types.{same_name}
 use Rattle.td_types.specs.code.Views.{heading_view}
 use Rattle.td_types.proofs.heading.Heading.without.Given as goal
 

@@ -1,6 +1,7 @@
 use Rattle.std.proofs.Common.{◌≡◌, rules}
 use Rattle.std.specs.Ordering.{eq_by_cmp}
-use Rattle.td_types.specs.TypeOrder.{heading_cmp, heading_eq-Decides}
+use Rattle.td_types.specs.model.Types.{heading_cmp}
+use Rattle.td_types.specs.code.TypeOrder.{heading_eq-Decides}
 use Rattle.td_types.proofs.order.HeadingPartialEq.eq.Goals as goal
 
 pub returns-clause-same : goal.returns-clause-same

@@ -1,6 +1,6 @@
 use Rattle.std.proofs.Common.{◌≡◌, rules}
 use Rattle.std.specs.Ordering.{eq_by_cmp}
-use Rattle.td_types.specs.TypeOrder.{ty_cmp, type_eq-Decides}
+use Rattle.td_types.specs.code.TypeOrder.{ty_cmp, type_eq-Decides}
 use Rattle.td_types.specs.code.Views.{type_view}
 use Rattle.td_types.proofs.order.TyPartialEq.eq.Goals as goal
 

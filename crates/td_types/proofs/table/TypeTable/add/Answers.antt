@@ -1,11 +1,11 @@
 use Rattle.std.proofs.Common.{◌∙◌, ap, subst, sym}
 use Rattle.std.specs.Prelude.{option_map}
-use Rattle.td_tree.specs.Names.{IsName}
+use Rattle.td_tree.specs.model.Names.{IsName}
 use Rattle.td_tree.specs.code.TreeViews.{tree_view}
 use Rattle.td_types.specs.code.Pairs.{ArePairs}
 use Rattle.td_types.specs.code.Tables.{IsTable, kept_rank, rows_view}
-use Rattle.td_types.specs.TypeLists.{rank_of}
-use Rattle.td_types.specs.Types.{pack, tuple}
+use Rattle.td_types.specs.model.TypeLists.{rank_of}
+use Rattle.td_types.specs.model.Types.{pack, tuple}
 use Rattle.td_types.specs.code.Views.{pairs_view}
 use Rattle.td_types.proofs.Additions.{IsAddition, IsTable-added, view_added}
 use Rattle.td_types.proofs.table.TypeTable.add.Goals as goal

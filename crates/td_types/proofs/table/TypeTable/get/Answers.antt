@@ -1,5 +1,5 @@
 use Rattle.std.proofs.Common.{◌≡◌, ◌∙◌, None, Some, ap}
-use Rattle.td_types.specs.TypeLists.{declared_at}
+use Rattle.td_types.specs.model.TypeLists.{declared_at}
 use Rattle.td_types.proofs.Tables.{entry_none, entry_some}
 use Rattle.td_types.proofs.table.TypeTable.get.Goals as goal
 

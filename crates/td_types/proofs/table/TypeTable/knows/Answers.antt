@@ -1,6 +1,6 @@
 use Rattle.std.proofs.Common.{◌↔◌, IsTrue, ap, subst, sym, ◌∙◌}
 use Rattle.std.specs.Prelude.{is_some}
-use Rattle.td_types.specs.TypeLists.{IsKnown}
+use Rattle.td_types.specs.model.TypeLists.{IsKnown}
 use Rattle.td_types.specs.code.Views.{type_view}
 use Rattle.td_types.proofs.KeptRanks.{known_where_kept}
 use Rattle.td_types.proofs.table.TypeTable.knows.Goals as goal

@@ -1,7 +1,7 @@
 use Rattle.std.proofs.Common.{◌↔◌, IsTrue, ap, subst, sym, ◌∙◌}
 use Rattle.std.specs.Prelude.{is_some}
-use Rattle.td_types.specs.TypeLists.{AreKnown}
-use Rattle.td_types.specs.Types.{pack, tuple}
+use Rattle.td_types.specs.model.TypeLists.{AreKnown}
+use Rattle.td_types.specs.model.Types.{pack, tuple}
 use Rattle.td_types.specs.code.Views.{pairs_view}
 use Rattle.td_types.proofs.KeptRanks.{known_where_kept}
 use Rattle.td_types.proofs.table.TypeTable.knows_all.Goals as goal

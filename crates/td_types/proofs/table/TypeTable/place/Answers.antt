@@ -1,5 +1,5 @@
 use Rattle.std.proofs.Common.{◌∙◌, ap}
-use Rattle.td_types.specs.TypeLists.{declared_place}
+use Rattle.td_types.specs.model.TypeLists.{declared_place}
 use Rattle.td_types.proofs.Tables.{found_place}
 use Rattle.td_types.proofs.table.TypeTable.place.Goals as goal
 

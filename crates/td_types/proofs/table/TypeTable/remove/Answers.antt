@@ -1,5 +1,5 @@
 use Rattle.std.proofs.Common.{◌∙◌, ap, subst, sym}
-use Rattle.td_types.specs.NamedTypes.{is_component, without_declared}
+use Rattle.td_types.specs.model.NamedTypes.{is_component, without_declared}
 use Rattle.td_types.specs.code.Tables.{IsTable, rows_view}
 use Rattle.td_types.proofs.RemovedTypes.{not_true}
 use Rattle.td_types.proofs.Removals.{IsTable-without, view_without}

@@ -1,6 +1,6 @@
 use Rattle.std.proofs.Common.{◌≡◌, ◌∙◌, None, ap}
 use Rattle.td_types.specs.code.Tables.{kept_rank, rows_view}
-use Rattle.td_types.specs.TypeLists.{user_ranks}
+use Rattle.td_types.specs.model.TypeLists.{user_ranks}
 use Rattle.td_types.proofs.Tables.{rank_missing, rank_some}
 use Rattle.td_types.proofs.table.TypeTable.user_rank.Goals as goal
 

@@ -1,6 +1,6 @@
 use Rattle.std.proofs.Common.{ap, sym, subst}
 use Rattle.std.specs.List.{All}
-use Rattle.td_tree.specs.Names.{IsName}
+use Rattle.td_tree.specs.model.Names.{IsName}
 use Rattle.td_value.specs.code.Zipped.{AreNames}
 use Rattle.td_value.proofs.names.NameList.new.Goals as goal
 

@@ -1,8 +1,8 @@
 use Rattle.std.proofs.Common.{◌≡◌, ◌∙◌, ap, sym, subst, ℕ, List, Result, Ok, Err, IfOk, IfErr}
 use Rattle.std.specs.Prelude.{is_ok}
-use Rattle.td_value.specs.Places.{IsPlaceFor, IsPlaceOf}
-use Rattle.td_value.specs.Sets.{has}
-use Rattle.td_value.specs.Values.{Tuple, Relation, IsAscendingBody, tuple_cmp}
+use Rattle.td_value.specs.code.Places.{IsPlaceFor, IsPlaceOf}
+use Rattle.td_value.specs.model.Sets.{has}
+use Rattle.td_value.specs.model.Values.{Tuple, Relation, IsAscendingBody, tuple_cmp}
 use Rattle.td_value.proofs.Changes.{relation_ascends}
 use Rattle.td_value.proofs.relation.Rel.contains.Goals as goal
 

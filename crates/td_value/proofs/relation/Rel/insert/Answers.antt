@@ -1,9 +1,8 @@
 use Rattle.std.proofs.Common.{◌≡◌, ◌∙◌, ap, sym, subst}
 use Rattle.std.specs.List.{insert}
-use Rattle.td_value.specs.Sets.{put_in}
-use Rattle.td_value.specs.Values.{Relation, IsAscendingBody, IsRelation, IsTupleOf, tuple_cmp}
-use Rattle.td_value.specs.ValueOrder.{tuple_order_total, tuple_order_same}
-use Rattle.td_value.specs.code.Views.{relation_view}
+use Rattle.td_value.specs.model.Sets.{put_in}
+use Rattle.td_value.specs.model.Values.{Relation, IsAscendingBody, IsRelation, IsTupleOf, tuple_cmp, relation_view}
+use Rattle.td_value.specs.code.ValueOrder.{tuple_order_total, tuple_order_same}
 use Rattle.td_value.proofs.Changes.{relation_ascends, relation_with}
 use Rattle.td_value.proofs.Places.{put_in-there}
 use Rattle.td_value.proofs.relation.Rel.insert.Goals as goal

@@ -1,6 +1,6 @@
 use Rattle.std.proofs.Common.{◌≡◌, ◌∙◌, ap, subst, sym, IfOk, List, Result, Ok, Err}
 use Rattle.std.specs.List.{All}
-use Rattle.td_value.specs.Values.{IsRelation, IsTupleOf, Relation}
+use Rattle.td_value.specs.model.Values.{IsRelation, IsTupleOf, Relation}
 use Rattle.td_value.proofs.Rows.{All-from_rows}
 use Rattle.td_value.proofs.relation.Rel.into_rows.Goals as goal
 

@@ -1,5 +1,5 @@
 use Rattle.std.proofs.Common.{subst, sym}
-use Rattle.td_value.specs.Values.{HaveSameNames}
+use Rattle.td_value.specs.model.Values.{HaveSameNames}
 use Rattle.td_value.proofs.Rows.{HaveSameNames-from}
 use Rattle.td_value.proofs.relation.Rel.moved_together.Goals as goal
 

@@ -1,20 +1,13 @@
 use Rattle.std.proofs.Common.{◌≡◌, ◌∙◌, ap, sym, subst, List, Result, Ok, Err, IfOk}
 use Rattle.std.specs.List.{All}
-use Rattle.std.proofs.lemmas.List.Elements.{All-contains, All-contains_itself}
-use Rattle.td_types.specs.Types.{Heading}
-use Rattle.td_value.specs.Sets.{set_of}
-use Rattle.td_value.specs.Values.{Tuple, HaveSameMembers, HaveSameNames, IsAscendingBody, IsTupleOf, Relation, tuple_cmp}
-use Rattle.td_value.specs.ValueOrder.{tuple_order_total, tuple_order_same}
-use Rattle.td_value.specs.code.Views.{relation_view}
-use Rattle.td_value.proofs.Members.{set_members}
+use Rattle.td_types.specs.model.Types.{Heading}
+use Rattle.td_value.specs.model.Sets.{set_of}
+use Rattle.td_value.specs.model.Values.{Tuple, HaveSameMembers, HaveSameNames, IsAscendingBody, IsTupleOf, Relation, tuple_cmp, relation_view}
+use Rattle.td_value.specs.code.ValueOrder.{tuple_order_total, tuple_order_same}
+use Rattle.td_value.proofs.Members.{set_headed, set_members}
 use Rattle.td_value.proofs.Rows.{HaveSameNames-from}
 use Rattle.td_value.proofs.SetLaws.{set_of-ascends}
 use Rattle.td_value.proofs.relation.Rel.new.Goals as goal
-
--- the set of tuples of a heading has tuples of it
-set_headed : (heading : Heading) (given : List Tuple) → All (IsTupleOf heading) given → All (IsTupleOf heading) (set_of tuple_cmp given)
-set_headed heading given all k d p =
-    All-contains (IsTupleOf heading) given _ all ((set_members given _).0 (All-contains_itself (set_of tuple_cmp given) k d p))
 
 -- a relation of the set of the tuples
 of_set : {E : Type 0} (heading : Heading) (given made : List Tuple) (r : Result Relation E) → made ≡ set_of tuple_cmp given → IfOk r (λ s. s ≡ relation_view heading made)

@@ -2,9 +2,8 @@ use Rattle.std.proofs.Common.{◌≡◌, ◌∙◌, ap, sym, subst, filter}
 use Rattle.std.specs.List.{remove}
 use Rattle.std.specs.Ordering.{eq_by_cmp}
 use Rattle.std.specs.Prelude.{not}
-use Rattle.td_value.specs.Values.{Relation, Tuple, IsAscendingBody, IsRelation, tuple_cmp}
-use Rattle.td_value.specs.ValueOrder.{tuple_order_total, tuple_order_same}
-use Rattle.td_value.specs.code.Views.{relation_view}
+use Rattle.td_value.specs.model.Values.{Relation, Tuple, IsAscendingBody, IsRelation, tuple_cmp, relation_view}
+use Rattle.td_value.specs.code.ValueOrder.{tuple_order_total, tuple_order_same}
 use Rattle.td_value.proofs.Changes.{relation_ascends, relation_kept}
 use Rattle.td_value.proofs.Places.{filter-missing}
 use Rattle.td_value.proofs.relation.Rel.remove.Goals as goal

@@ -1,5 +1,5 @@
 use Rattle.std.proofs.Common.{subst}
-use Rattle.td_value.specs.Values.{IsRelation, IsAscendingBody}
+use Rattle.td_value.specs.model.Values.{IsRelation, IsAscendingBody}
 use Rattle.td_value.specs.code.ValueCode.{unpack_pack_rows}
 use Rattle.td_value.proofs.Rows.{All-from_rows}
 use Rattle.td_value.proofs.relation.Rel.rows.Goals as goal

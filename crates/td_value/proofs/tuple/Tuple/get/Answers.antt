@@ -2,7 +2,7 @@ use Rattle.std.proofs.Common.{◌∙◌, ap, sym, subst}
 use Rattle.std.specs.Ordering.{nat_cmp}
 use Rattle.std.specs.Cmp.Lexicographic.{slice_cmp}
 use Rattle.std.specs.List.Sorted.{IsStrictlySortedBy}
-use Rattle.td_value.specs.Values.{tuple_names, value_at}
+use Rattle.td_value.specs.model.Values.{tuple_names, value_at}
 use Rattle.td_value.specs.code.Views.{tuple_view}
 use Rattle.td_value.proofs.Cut.{names_of_tuple}
 use Rattle.td_value.proofs.Zips.{unzipped}

@@ -1,9 +1,9 @@
 use Rattle.std.proofs.Common.{◌∙◌, ap, sym}
 use Rattle.std.specs.Ordering.{is_eq}
-use Rattle.td_types.specs.Types.{attrs_cmp}
+use Rattle.td_types.specs.model.Types.{attrs_cmp}
 use Rattle.td_value.proofs.HeadingOf.{fields_type-heading}
-use Rattle.td_types.specs.Types.{pack}
-use Rattle.td_value.specs.Values.{fields_type, pack_fields}
+use Rattle.td_types.specs.model.Types.{pack}
+use Rattle.td_value.specs.model.Values.{fields_type, pack_fields}
 use Rattle.td_value.proofs.Headed.{headings_tie}
 use Rattle.td_value.proofs.Rows.{IsTupleOf-from}
 use Rattle.td_value.proofs.tuple.Tuple.has_heading.Goals as goal

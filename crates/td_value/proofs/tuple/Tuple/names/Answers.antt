@@ -1,7 +1,7 @@
 use Rattle.std.proofs.Common.{◌∙◌, ap, sym, subst, arith, drop}
 use Rattle.std.proofs.lemmas.List.{length-drop}
 use Rattle.td_value.proofs.Cut.{cut_names}
-use Rattle.td_value.specs.Values.{IsTuple, tuple_names}
+use Rattle.td_value.specs.model.Values.{IsTuple, tuple_names}
 use Rattle.td_value.proofs.tuple.Tuple.names.Goals as goal
 
 pub returns-clause-names : goal.returns-clause-names

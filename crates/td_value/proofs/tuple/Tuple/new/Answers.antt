@@ -6,9 +6,9 @@ use Rattle.std.specs.Ordering.{is_lt, ordering_then}
 use Rattle.std.specs.List.Sorted.{IsPermutation, IsSorted}
 use Rattle.std.proofs.lemmas.List.Sorted.{IsPermutation-map}
 use Rattle.td_tree.specs.declared.cause.Cause.TheVariants as causes
-use Rattle.td_types.specs.Headings.{are_distinct}
+use Rattle.td_types.specs.model.Headings.{are_distinct}
 use Rattle.td_types.proofs.Valued.{answers_cause, answers_value}
-use Rattle.td_value.specs.Values.{Tuple, entry_cmp, tuple_names, tuple_of, value_at}
+use Rattle.td_value.specs.model.Values.{Tuple, entry_cmp, tuple_names, tuple_of, value_at}
 use Rattle.td_value.proofs.Maps.{sorted_is_tuple_of, value_at-tuple_of}
 use Rattle.td_types.proofs.DistinctNames.{Sorted, distinct_permuted, rising}
 use Rattle.td_value.proofs.tuple.Tuple.new.Goals as goal

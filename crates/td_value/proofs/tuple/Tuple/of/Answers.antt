@@ -1,5 +1,5 @@
 use Rattle.std.proofs.Common.{◌∙◌, ap, arith, length, subst, sym}
-use Rattle.td_value.specs.Values.{AreValues, pack_parts}
+use Rattle.td_value.specs.model.Values.{AreValues, pack_parts}
 use Rattle.td_value.specs.code.Zipped.{AreNames}
 use Rattle.td_value.proofs.Cut.{cut_tuple}
 use Rattle.td_value.proofs.tuple.Tuple.of.Goals as goal

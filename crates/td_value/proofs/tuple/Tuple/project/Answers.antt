@@ -1,5 +1,5 @@
 use Rattle.std.proofs.Common.{subst, sym}
-use Rattle.td_value.specs.Values.{IsTuple}
+use Rattle.td_value.specs.model.Values.{IsTuple}
 use Rattle.td_value.proofs.Own.{as_many_lent, own_entries}
 use Rattle.td_value.proofs.tuple.Tuple.project.Goals as goal
 

@@ -1,5 +1,5 @@
 use Rattle.std.proofs.Common.{◌∙◌, ap, sym, subst}
-use Rattle.td_value.specs.Values.{IsTuple, tuple_names}
+use Rattle.td_value.specs.model.Values.{IsTuple, tuple_names}
 use Rattle.td_value.specs.code.Zipped.{AreNames}
 use Rattle.td_value.proofs.Cut.{names_of_tuple}
 use Rattle.td_value.proofs.Made.{row_names}

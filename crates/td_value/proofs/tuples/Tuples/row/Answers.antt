@@ -4,7 +4,7 @@ use Rattle.std.specs.List.{slice_get}
 use Rattle.std.proofs.lemmas.List.{length-drop}
 use Rattle.td_value.proofs.Cut.{cut_values}
 use Rattle.td_value.proofs.Placed.{placed, rows_length}
-use Rattle.td_value.specs.Values.{Tuple, Val}
+use Rattle.td_value.specs.model.Values.{Tuple, Val}
 use Rattle.td_value.specs.code.Blocks.{Making, row_view}
 use Rattle.td_value.specs.code.Views.{values_of}
 use Rattle.td_value.proofs.tuples.Tuples.row.Goals as goal

@@ -1,6 +1,6 @@
 use Rattle.std.proofs.Common.{◌∙◌, sym}
 use Rattle.td_types.specs.code.Views as heads
-use Rattle.td_value.specs.Values.{type_of}
+use Rattle.td_value.specs.model.Values.{type_of}
 use Rattle.td_value.proofs.Headed.{types_tie}
 use Rattle.td_value.proofs.value.Value.has_type.Goals as goal
 

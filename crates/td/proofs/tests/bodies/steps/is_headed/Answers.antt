@@ -1,6 +1,6 @@
 use Rattle.std.proofs.Common.{◌∙◌, ap, sym}
-use Rattle.td_types.specs.TypeOrder.{heading_eq-Decides}
-use Rattle.td_value.specs.Values.{Relation}
+use Rattle.td_types.specs.code.TypeOrder.{heading_eq-Decides}
+use Rattle.td_value.specs.model.Values.{Relation}
 use Rattle.td.proofs.tests.bodies.steps.is_headed.Goals as goal
 
 pub returns : goal.returns

@@ -1,8 +1,8 @@
 use Rattle.std.proofs.Common.{◌≡◌, ◌<◌, length}
 use Rattle.std.specs.Prelude.{IfSome}
 use Rattle.std.specs.List.{slice_get}
-use Rattle.td_types.specs.Headings.{projection}
-use Rattle.td_value.specs.Values.{heading_of}
+use Rattle.td_types.specs.model.Headings.{projection}
+use Rattle.td_value.specs.model.Values.{heading_of}
 use Rattle.td.proofs.tests.bodies.steps.steps_met.Given as goal
 
 abbrev pub invariant-loop-place : goal.invariant-loop-place

@@ -1,6 +1,6 @@
 use Rattle.std.proofs.Common.{[], subst, sym}
 use Rattle.std.specs.List.Sorted.{IsStrictlySortedBy}
-use Rattle.td_value.specs.Values.{IsAscendingBody, tuple_cmp}
+use Rattle.td_value.specs.model.Values.{IsAscendingBody, tuple_cmp}
 use Rattle.td.proofs.tests.catalogs.changes.none_and_all.Goals as goal
 
 none_ascend : IsStrictlySortedBy tuple_cmp []

@@ -1,5 +1,5 @@
 use Rattle.std.proofs.Common.{subst, sym}
-use Rattle.td_catalog.specs.TypedDatabases.{AreTyped}
+use Rattle.td_catalog.specs.model.TypedDatabases.{AreTyped}
 use Rattle.td.proofs.TypedBases.{is_typed_base}
 use Rattle.td.proofs.tests.catalogs.changes.parts.Goals as goal
 

@@ -1,7 +1,7 @@
 use Rattle.std.proofs.Common.{◌∙◌, [], ap, map, subst, sym}
 use Rattle.std.specs.List.Sorted.{IsStrictlySortedBy}
-use Rattle.td_types.specs.Types.{attribute_names}
-use Rattle.td_value.specs.Values.{IsAscendingBody, Relation, tuple_cmp}
+use Rattle.td_types.specs.model.Types.{attribute_names}
+use Rattle.td_value.specs.model.Values.{IsAscendingBody, Relation, tuple_cmp}
 use Rattle.td_body.specs.code.HashBodies.{IsPlacedFor}
 use Rattle.td_body.specs.code.Members.{ArePlaced}
 use Rattle.td_body.proofs.HashBodyLaws.{body_empty}

@@ -2,13 +2,12 @@ use Rattle.std.proofs.Common.{◌≡◌, ◌<◌, ◌∙◌, ap, filter, length,
 use Rattle.std.specs.List.{All, slice_get}
 use Rattle.std.specs.Prelude.{IfOk, IfSome}
 use Rattle.td_algebra.proofs.Keys.{if_ok}
-use Rattle.td_types.specs.Headings.{projection}
-use Rattle.td_types.specs.Types.{attribute_names}
-use Rattle.td_value.specs.Agreement.{agree_on}
-use Rattle.td_value.specs.Sets.{set_of}
-use Rattle.td_value.specs.Values.{HaveSameMembers, IsTupleOf, heading_of, tuple_cmp}
-use Rattle.td_value.specs.code.Views.{relation_view}
-use Rattle.td_body.specs.Bodies.{BodyView, agreeing}
+use Rattle.td_types.specs.model.Headings.{projection}
+use Rattle.td_types.specs.model.Types.{attribute_names}
+use Rattle.td_value.specs.model.Agreement.{agree_on}
+use Rattle.td_value.specs.model.Sets.{set_of}
+use Rattle.td_value.specs.model.Values.{HaveSameMembers, IsTupleOf, heading_of, tuple_cmp, relation_view}
+use Rattle.td_body.specs.model.Bodies.{BodyView, agreeing}
 use Rattle.td_body.specs.code.Hashes.{with_part}
 use Rattle.td_body.specs.code.KeyParts.{places_from}
 use Rattle.td_body.proofs.LookUps.{at_some, found_agreeing, found_headed, key_at, names_at, part_count, places_at}

@@ -1,7 +1,7 @@
 use Rattle.std.proofs.Common.{◌≡◌, ◌<◌, ◌∙◌, length, map, subst, sym}
 use Rattle.std.specs.List.{slice_get}
 use Rattle.std.specs.Prelude.{IfSome}
-use Rattle.td_body.specs.Bodies.{BodyView, key_holds}
+use Rattle.td_body.specs.model.Bodies.{BodyView, key_holds}
 use Rattle.td_body.specs.code.KeyParts.{apart_at}
 use Rattle.td_body.proofs.LookUps.{apart_held, at_some, key_at, names_at, places_at}
 use Rattle.td_body.proofs.hashed.body.HashBodyBody.key_holds.Goals as goal

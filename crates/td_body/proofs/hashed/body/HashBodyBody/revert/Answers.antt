@@ -1,6 +1,6 @@
 use Rattle.std.proofs.Common.{◌≡◌, ◌∙◌, ◌++◌, ◌-◌, ◌∷◌, [], ℕ, List, ap, arith, length, map, subst}
 use Rattle.std.specs.List.{All}
-use Rattle.td_body.specs.Bodies.{HaveOneHeading}
+use Rattle.td_body.specs.model.Bodies.{HaveOneHeading}
 use Rattle.td_body.specs.code.HashBodies.{IsHashBody, IsPlacedFor, kept_with_aside}
 use Rattle.td_body.specs.code.Members.{Members}
 use Rattle.td_body.proofs.HashBodyLaws.{body_back, kept_aside, kept_more, last_headed, placed_same}

@@ -1,5 +1,5 @@
 use Rattle.std.proofs.Common.{◌≡◌, ℕ, ◌∙◌, ◌-◌, ◌&&◌, arith, ap, get_or, length, not, refl, subst, sym, true}
-use Rattle.td_value.specs.ValueOrder.{tuple_Decides}
+use Rattle.td_value.specs.code.ValueOrder.{tuple_Decides}
 use Rattle.td_body.specs.code.Chains.{IsWalked, last_in}
 use Rattle.td_body.specs.code.KeyIndexes.{hashes_in}
 use Rattle.td_body.specs.code.Numbered.{live, tuple_eq}

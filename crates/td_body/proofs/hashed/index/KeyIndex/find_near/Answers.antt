@@ -1,5 +1,5 @@
 use Rattle.std.proofs.Common.{◌∙◌, get_or, sym, true}
-use Rattle.td_value.specs.ValueOrder.{tuple_Decides}
+use Rattle.td_value.specs.code.ValueOrder.{tuple_Decides}
 use Rattle.td_body.specs.code.Numbered.{tuple_eq}
 use Rattle.td_body.proofs.Walks.{both_true}
 use Rattle.td_body.proofs.hashed.index.KeyIndex.find_near.Goals as goal

@@ -1,6 +1,6 @@
 use Rattle.std.proofs.Common.{◌≡◌, true, ◌∙◌, ◌-◌, ◌<◌, ◌&&◌, Some, arith, ap, get_or, length, map, not, subst, sym, true≢false, cond, ◌++◌, ◌∷◌, []}
 use Rattle.std.specs.Ordering.{is_eq}
-use Rattle.td_value.specs.Values.{Tuple}
+use Rattle.td_value.specs.model.Values.{Tuple}
 use Rattle.td_body.specs.code.Chains.{IsWalked, last_in}
 use Rattle.td_body.specs.code.KeyIndexes.{hashes_in}
 use Rattle.td_body.specs.code.Hashes.{found_hash, part_hash}

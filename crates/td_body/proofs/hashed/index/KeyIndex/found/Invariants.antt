@@ -1,6 +1,6 @@
 use Rattle.std.proofs.Common.{◌≡◌, ◌&&◌, Some, [], length, map, true}
 use Rattle.std.specs.Ordering.{is_eq}
-use Rattle.td_value.specs.Values.{Tuple}
+use Rattle.td_value.specs.model.Values.{Tuple}
 use Rattle.td_body.specs.code.Hashes.{found_hash}
 use Rattle.td_body.specs.code.KeyIndexes.{hashes_in}
 use Rattle.td_body.specs.code.KeyParts.{values_cmp}

@@ -1,6 +1,6 @@
 use Rattle.std.proofs.Common.{◌∙◌, [], ap}
 use Rattle.std.proofs.lemmas.Result.{on_ok_weaker}
-use Rattle.td_value.specs.code.Views.{relation_view}
+use Rattle.td_value.specs.model.Values.{relation_view}
 use Rattle.td_body.specs.code.Members.{changed_set}
 use Rattle.td_body.proofs.TupleSets.{changed_both}
 use Rattle.td_body.proofs.hashed.members.Members.apply.Goals as goal

@@ -1,5 +1,5 @@
 use Rattle.std.proofs.Common.{◌∙◌, ap, map, subst, sym}
-use Rattle.td_value.specs.code.Views.{relation_view}
+use Rattle.td_value.specs.model.Values.{relation_view}
 use Rattle.td_body.specs.code.Logs.{kept_by}
 use Rattle.td_body.specs.code.Members.{AreMembers, tuples_of}
 use Rattle.td_body.proofs.News.{members_new}

@@ -1,6 +1,6 @@
 use Rattle.std.proofs.Common.{◌≡◌, ◌∙◌, ◌∷◌, ◌++◌, [], ◌<◌, ap, arith, length, map, subst, sym}
 use Rattle.std.proofs.lemmas.List.{length-map, map-append}
-use Rattle.td_value.specs.code.Views.{relation_view}
+use Rattle.td_value.specs.model.Values.{relation_view}
 use Rattle.td_body.specs.declared.hashed.index.KeyIndex.{KeyIndex}
 use Rattle.td_body.specs.code.Logs.{kept_by}
 use Rattle.td_body.specs.code.Members.{places_in, tuples_of}

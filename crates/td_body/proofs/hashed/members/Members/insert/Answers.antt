@@ -1,6 +1,6 @@
 use Rattle.std.proofs.Common.{◌∙◌, ap, sym}
 use Rattle.td_algebra.proofs.Relations.{rows_ascend}
-use Rattle.td_value.specs.code.Views.{relation_view}
+use Rattle.td_value.specs.model.Values.{relation_view}
 use Rattle.td_body.proofs.TupleSets.{put_again}
 use Rattle.td_body.proofs.hashed.members.Members.insert.Goals as goal
 

@@ -1,6 +1,6 @@
 use Rattle.std.proofs.Common.{◌≡◌, ◌∙◌, ap, length, subst, sym}
 use Rattle.std.proofs.lemmas.List.{length-map}
-use Rattle.td_value.specs.code.Views.{relation_view}
+use Rattle.td_value.specs.model.Values.{relation_view}
 use Rattle.td_body.specs.code.Logs.{kept_by}
 use Rattle.td_body.specs.code.Members.{tuples_of}
 use Rattle.td_body.proofs.StepLaws.{kept_many}

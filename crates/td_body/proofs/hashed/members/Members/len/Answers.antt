@@ -1,7 +1,7 @@
 use Rattle.std.proofs.Common.{◌≡◌, ◌∙◌, length, subst, sym}
 use Rattle.td_algebra.proofs.Relations.{IsRelation-relation_of}
-use Rattle.td_types.specs.Types.{IsHeading, pack}
-use Rattle.td_value.specs.Values.{IsRelation, IsTupleOf}
+use Rattle.td_types.specs.model.Types.{IsHeading, pack}
+use Rattle.td_value.specs.model.Values.{IsRelation, IsTupleOf}
 use Rattle.td_body.specs.code.Numbered.{live}
 use Rattle.td_body.proofs.RowSteps.{all_live}
 use Rattle.td_body.proofs.StepLaws.{length_set}

@@ -2,7 +2,7 @@ use Rattle.std.proofs.Common.{ap, subst, sym}
 use Rattle.std.specs.Ordering.{is_eq}
 use Rattle.std.specs.Prelude.{IfOk, IfSome}
 use Rattle.td_algebra.proofs.Keys.{if_ok}
-use Rattle.td_value.specs.Values.{HaveSameMembers}
+use Rattle.td_value.specs.model.Values.{HaveSameMembers}
 use Rattle.td_body.specs.code.Hashes.{with_part}
 use Rattle.td_body.specs.code.KeyParts.{values_cmp}
 use Rattle.td_body.specs.code.Members.{Members}

@@ -1,6 +1,5 @@
 use Rattle.std.proofs.Common.{◌≡◌, ◌∙◌, ◌+◌, ◌∷◌, ◌++◌, [], false, ap, arith, length, map, refl, subst, sym}
-use Rattle.td_value.specs.Values.{with_tuple}
-use Rattle.td_value.specs.code.Views.{relation_view}
+use Rattle.td_value.specs.model.Values.{with_tuple, relation_view}
 use Rattle.td_body.specs.declared.hashed.step.Step.TheVariants.{Added}
 use Rattle.td_body.specs.code.Numbered.{live}
 use Rattle.td_body.specs.code.Logs.{kept_by}

@@ -1,7 +1,6 @@
 use Rattle.std.proofs.Common.{◌≡◌, ◌∙◌, ◌-◌, ◌∷◌, ◌++◌, [], is_some, false, true, ap, arith, map, set, subst, sym}
 use Rattle.std.specs.List.{All}
-use Rattle.td_value.specs.Values.{without_tuple}
-use Rattle.td_value.specs.code.Views.{relation_view}
+use Rattle.td_value.specs.model.Values.{without_tuple, relation_view}
 use Rattle.td_body.specs.declared.hashed.step.Step.TheVariants.{Dropped}
 use Rattle.td_body.specs.code.KeyIndexes.{IsIndex}
 use Rattle.td_body.specs.code.Numbered.{live}

@@ -1,7 +1,7 @@
 use Rattle.std.proofs.Common.{◌≡◌, ◌∙◌, ◌+◌, ◌∷◌, [], ap, drop, sym}
 use Rattle.std.proofs.lemmas.List.{at_drop_all, drop_more}
 use Rattle.td_algebra.proofs.Relations.{rows_ascend}
-use Rattle.td_value.specs.code.Views.{relation_view}
+use Rattle.td_value.specs.model.Values.{relation_view}
 use Rattle.td_body.specs.code.Members.{Members, changed_set}
 use Rattle.td_body.proofs.TupleSets.{changed_none, changed_out}
 use Rattle.td_body.proofs.hashed.members.Members.take_out.Goals as goal

@@ -3,9 +3,8 @@ use Rattle.std.specs.List.{All}
 use Rattle.std.specs.Prelude.{IfOk}
 use Rattle.std.proofs.lemmas.List.{append-nil}
 use Rattle.std.proofs.lemmas.Bool.{eqb-true}
-use Rattle.td_algebra.specs.Operators.{union}
-use Rattle.td_value.specs.Values.{IsAscendingBody, IsTupleOf, Relation}
-use Rattle.td_value.specs.code.Views.{relation_view}
+use Rattle.td_algebra.specs.model.Operators.{union}
+use Rattle.td_value.specs.model.Values.{IsAscendingBody, IsTupleOf, Relation, relation_view}
 use Rattle.td_body.specs.code.Members.{Members, tuples_of}
 use Rattle.td_body.specs.code.Numbered.{live}
 use Rattle.td_body.proofs.LiveRows.{all_later, no_items, set_itself, set_joined}

@@ -1,8 +1,7 @@
 use Rattle.std.proofs.Common.{◌≡◌, ◌∙◌, ap, length, subst, sym, take}
 use Rattle.std.specs.List.{All}
 use Rattle.std.specs.Prelude.{IfOk}
-use Rattle.td_value.specs.Values.{IsAscendingBody, IsTupleOf, Relation}
-use Rattle.td_value.specs.code.Views.{relation_view}
+use Rattle.td_value.specs.model.Values.{IsAscendingBody, IsTupleOf, Relation, relation_view}
 use Rattle.td_body.specs.code.Numbered.{Numbered, live}
 use Rattle.td_body.proofs.LiveRows.{ascends_live, live_untouched, take_first}
 use Rattle.td_body.proofs.RowSteps.{all_live}

@@ -1,7 +1,7 @@
 use Rattle.std.proofs.Common.{◌≡◌, ◌∙◌, ◌-◌, ◌∷◌, ◌++◌, [], ap, arith, length, length-append, take, subst}
 use Rattle.std.specs.List.{All}
 use Rattle.std.specs.Option.{option_to_list}
-use Rattle.td_value.specs.Values.{IsTupleOf}
+use Rattle.td_value.specs.model.Values.{IsTupleOf}
 use Rattle.td_body.specs.code.Numbered.{front}
 use Rattle.td_body.proofs.Lives.{front_take}
 use Rattle.td_body.proofs.RowSteps.{all_front}

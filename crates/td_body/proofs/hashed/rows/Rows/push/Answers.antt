@@ -1,7 +1,7 @@
 use Rattle.std.proofs.Common.{◌∷◌, ◌++◌, [], ap, append_assoc, arith, false, length, length-append, subst, sym, ◌∙◌, ◌≡◌}
 use Rattle.std.proofs.lemmas.List.Elements.{All-push}
 use Rattle.std.specs.List.{All}
-use Rattle.td_value.specs.Values.{IsTupleOf}
+use Rattle.td_value.specs.model.Values.{IsTupleOf}
 use Rattle.td_body.proofs.hashed.rows.Rows.push.Goals as goal
 
 pub invariant_of-self : goal.invariant_of-self

@@ -1,7 +1,7 @@
 use Rattle.std.proofs.Common.{◌≡◌, ◌∙◌, ◌∷◌, [], subst}
 use Rattle.std.specs.Prelude.{OnOk}
-use Rattle.td_check.specs.Scopes.{entered_with}
-use Rattle.td_types.specs.Headings.{add_missing}
+use Rattle.td_check.specs.model.Scopes.{entered_with}
+use Rattle.td_types.specs.model.Headings.{add_missing}
 use Rattle.td_types.specs.code.Views.{type_view}
 use Rattle.td_plan.proofs.making.planner.Planner.bind.Goals as goal
 

@@ -1,12 +1,12 @@
 use Rattle.std.proofs.Common.{◌≡◌, ◌∙◌, ap, subst, sym}
 use Rattle.std.proofs.lemmas.Result.{IfOk-weaker}
 use Rattle.td_plan.proofs.FixedValues.{first_implied, operands_are_one, operands_are_one_back, second_implied}
-use Rattle.td_plan.specs.Fixing.{AreOneWhere}
-use Rattle.td_plan.specs.Narrowing.{AreFixed, Implies}
+use Rattle.td_plan.specs.code.Fixing.{AreOneWhere}
+use Rattle.td_plan.specs.code.Narrowing.{AreFixed, Implies}
 use Rattle.td_tree.specs.code.TreeViews.{tree_view}
-use Rattle.td_tree.specs.Trees.{Tree}
-use Rattle.td_tree.specs.WrittenTrees.{IsWritten}
-use Rattle.td_tree.specs.Trees as trees
+use Rattle.td_tree.specs.model.Trees.{Tree}
+use Rattle.td_tree.specs.model.WrittenTrees.{IsWritten}
+use Rattle.td_tree.specs.model.Trees as trees
 use Rattle.td_tree.specs.declared.operator.Comparison.TheVariants as comparisons
 use Rattle.td_tree.specs.declared.operator.Operator.TheVariants as operators
 use Rattle.td_plan.proofs.making.planning.Planning.+put_fixed_values.Goals as goal

@@ -3,11 +3,11 @@ use Rattle.std.proofs.lemmas.Result.{IfOk-weaker}
 use Rattle.std.specs.Prelude.{IfSome}
 use Rattle.td_plan.proofs.Pushed.{stands_planned}
 use Rattle.td_plan.specs.code.PlannedParts.{IsPlanned}
-use Rattle.td_plan.specs.PlansOf.{IsPlanOfTyped}
-use Rattle.td_plan.specs.Pushing.{MayStandFor, restricted_tree}
+use Rattle.td_plan.specs.code.PlansOf.{IsPlanOfTyped}
+use Rattle.td_plan.specs.code.Pushing.{MayStandFor, restricted_tree}
 use Rattle.td_plan.specs.code.StepViews.{step_view}
 use Rattle.td_tree.specs.code.TreeViews.{tree_view}
-use Rattle.td_tree.specs.Trees as trees
+use Rattle.td_tree.specs.model.Trees as trees
 use Rattle.td_plan.proofs.making.planning.Planning.+restriction.Goals as goal
 
 pub where_of-returns-in-Parentheses : goal.where_of-returns-in-Parentheses

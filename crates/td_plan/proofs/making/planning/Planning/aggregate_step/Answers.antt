@@ -1,15 +1,15 @@
 use Rattle.std.proofs.Common.{◌≡◌, subst}
 use Rattle.std.specs.Prelude.{IfNone, IfSome}
-use Rattle.td_check.specs.OperatorTypes.{aggregate_type}
-use Rattle.td_check.specs.Scopes.{entered_with}
-use Rattle.td_check.specs.StaticTypes.{type_of}
+use Rattle.td_check.specs.model.OperatorTypes.{aggregate_type}
+use Rattle.td_check.specs.model.Scopes.{entered_with}
+use Rattle.td_check.specs.model.StaticTypes.{type_of}
 use Rattle.td_plan.proofs.PlannedAnswers.{relation_typed, untyped_planned}
-use Rattle.td_tree.specs.Outcomes.{Valued, with_value}
+use Rattle.td_tree.specs.model.Outcomes.{Valued, with_value}
 use Rattle.td_tree.specs.code.TreeViews.{tree_view}
-use Rattle.td_tree.specs.Trees as trees
-use Rattle.td_types.specs.Types.{Heading, pack, relation}
+use Rattle.td_tree.specs.model.Trees as trees
+use Rattle.td_types.specs.model.Types.{Heading, pack, relation}
 use Rattle.td_plan.proofs.PlannedTuples.{aggregation_planned}
-use Rattle.td_plan.specs.PlansOf.{IsPlanOfTyped}
+use Rattle.td_plan.specs.code.PlansOf.{IsPlanOfTyped}
 use Rattle.td_plan.specs.code.StepViews.{step_view}
 use Rattle.td_plan.proofs.making.planning.Planning.aggregate_step.Goals as goal
 

@@ -1,18 +1,18 @@
 use Rattle.std.proofs.Common.{◌≡◌, ◌∙◌, ◌+◌, ap, arith, subst, sym}
 use Rattle.std.specs.Prelude.{IfNone, IfSome}
-use Rattle.td_check.specs.StaticTypes.{type_of}
+use Rattle.td_check.specs.model.StaticTypes.{type_of}
 use Rattle.td_plan.proofs.PlannedAnswers.{untyped_planned}
 use Rattle.td_plan.proofs.PlannedBelow.{lower}
 use Rattle.td_plan.proofs.PlannedBound.{ArePlannedTo, AreTypedTo, all_planned, bound_planned, planned_to_next, typed_here, typed_to_next}
 use Rattle.td_plan.proofs.StepRows.{bound_is}
 use Rattle.td_plan.proofs.TreeWeights.{weight_named}
-use Rattle.td_plan.specs.Plans as plans
-use Rattle.td_plan.specs.PlansOf.{IsPlanOfTyped}
+use Rattle.td_plan.specs.code.Plans as plans
+use Rattle.td_plan.specs.code.PlansOf.{IsPlanOfTyped}
 use Rattle.td_plan.specs.code.StepViews.{step_view, steps_view}
-use Rattle.td_tree.specs.Outcomes.{Valued}
+use Rattle.td_tree.specs.model.Outcomes.{Valued}
 use Rattle.td_tree.specs.code.TreeViews.{named_view, tree_view}
-use Rattle.td_tree.specs.Trees as trees
-use Rattle.td_types.specs.Types.{Type'}
+use Rattle.td_tree.specs.model.Trees as trees
+use Rattle.td_types.specs.model.Types.{Type'}
 use Rattle.td_types.specs.code.Views.{type_view}
 use Rattle.td_plan.proofs.making.planning.Planning.bound_step.Goals as goal
 

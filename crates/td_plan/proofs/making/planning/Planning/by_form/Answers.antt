@@ -3,11 +3,11 @@ use Rattle.std.specs.Rc.{rc_str_bytes}
 use Rattle.td_plan.proofs.PlannedBelow.{below}
 use Rattle.td_plan.proofs.PlannedLists.{expressions_are}
 use Rattle.td_plan.specs.code.TreeWeights.{weight}
-use Rattle.td_plan.specs.Plans as plans
+use Rattle.td_plan.specs.code.Plans as plans
 use Rattle.td_plan.specs.code.PlannedParts.{ArePlanned, IsPlanned, part_tree}
 use Rattle.td_tree.proofs.code_lemmas.Rows.{binding_is, extend_is, extend_setting_is, headed_relation_is, relation_is, select_is, summarize_by_is, summarize_per_is, tuple_is}
 use Rattle.td_tree.specs.code.TreeViews.{attributes_view, heading_tree_view, named_view, postfix_view, summaries_view, tree_view, trees_view}
-use Rattle.td_tree.specs.Trees as trees
+use Rattle.td_tree.specs.model.Trees as trees
 use Rattle.td_plan.proofs.making.planning.Planning.by_form.Goals as goal
 
 pub returns-in-Literal : goal.returns-in-Literal

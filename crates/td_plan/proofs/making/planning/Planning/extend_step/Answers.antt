@@ -1,17 +1,17 @@
 use Rattle.std.proofs.Common.{◌≡◌, subst, sym}
 use Rattle.std.specs.Prelude.{IfNone, IfSome}
-use Rattle.td_check.specs.OperatorTypes.{extension_type, setting_type}
-use Rattle.td_check.specs.Scopes.{entered_with}
-use Rattle.td_check.specs.StaticTypes.{named_types, type_of}
+use Rattle.td_check.specs.model.OperatorTypes.{extension_type, setting_type}
+use Rattle.td_check.specs.model.Scopes.{entered_with}
+use Rattle.td_check.specs.model.StaticTypes.{named_types, type_of}
 use Rattle.td_plan.proofs.PlannedAnswers.{parts_typed, relation_typed, untyped_planned}
 use Rattle.td_plan.specs.code.PlannedParts.{AreFoundColumns, in_named}
-use Rattle.td_tree.specs.Outcomes.{Valued, with_value}
+use Rattle.td_tree.specs.model.Outcomes.{Valued, with_value}
 use Rattle.td_tree.specs.code.TreeViews.{named_view, tree_view}
-use Rattle.td_tree.specs.Trees as trees
-use Rattle.td_types.specs.Types.{Heading, pack, relation}
+use Rattle.td_tree.specs.model.Trees as trees
+use Rattle.td_types.specs.model.Types.{Heading, pack, relation}
 use Rattle.td_plan.proofs.PlannedTuples.{extension_planned, setting_planned}
 use Rattle.td_plan.proofs.StepRows.{extend_is}
-use Rattle.td_plan.specs.PlansOf.{IsPlanOfTyped}
+use Rattle.td_plan.specs.code.PlansOf.{IsPlanOfTyped}
 use Rattle.td_plan.specs.code.StepViews.{step_view, steps_view}
 use Rattle.td_types.specs.code.Views.{pairs_view}
 use Rattle.td_plan.proofs.making.planning.Planning.extend_step.Goals as goal

@@ -1,5 +1,5 @@
 use Rattle.std.proofs.Common.{subst, sym}
-use Rattle.td_plan.specs.Narrowing.{AreFixed}
+use Rattle.td_plan.specs.code.Narrowing.{AreFixed}
 use Rattle.td_tree.specs.code.TreeViews.{tree_view}
 use Rattle.td_plan.proofs.making.planning.Planning.fixed_values.Goals as goal
 

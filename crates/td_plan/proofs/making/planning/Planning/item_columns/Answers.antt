@@ -1,13 +1,13 @@
 use Rattle.std.proofs.Common.{◌≡◌, Err, List, subst, sym}
 use Rattle.std.specs.Global.{Vec}
-use Rattle.td_eval.specs.AggregateValues.{summary_attributes}
+use Rattle.td_eval.specs.model.AggregateValues.{summary_attributes}
 use Rattle.td_plan.proofs.PlannedAnswers.{no_value}
 use Rattle.td_plan.proofs.PlannedLists.{items_are}
 use Rattle.td_plan.specs.code.PlannedParts.{ArePlansOfTyped, in_summaries}
 use Rattle.td_plan.specs.code.StepViews.{steps_view}
-use Rattle.td_tree.specs.Outcomes.{Answers, Valued}
+use Rattle.td_tree.specs.model.Outcomes.{Answers, Valued}
 use Rattle.td_tree.specs.code.TreeViews.{summaries_view}
-use Rattle.td_types.specs.Types.{Attribute}
+use Rattle.td_types.specs.model.Types.{Attribute}
 use Rattle.td_types.specs.code.Views.{pairs_view}
 use Rattle.td_plan.proofs.making.planning.Planning.item_columns.Goals as goal
 

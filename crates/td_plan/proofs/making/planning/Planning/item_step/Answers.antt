@@ -1,10 +1,10 @@
 use Rattle.std.proofs.Common.{refl, subst, sym, true}
 use Rattle.std.specs.Prelude.{IfOk}
 use Rattle.td_plan.specs.code.PlannedParts.{item_tree}
-use Rattle.td_plan.specs.PlansOf.{IsPlanOfTyped}
+use Rattle.td_plan.specs.code.PlansOf.{IsPlanOfTyped}
 use Rattle.td_plan.specs.code.StepViews.{step_view}
 use Rattle.td_plan.specs.declared.plan.step.Step.TheVariants as variants
-use Rattle.td_tree.specs.Trees as trees
+use Rattle.td_tree.specs.model.Trees as trees
 use Rattle.td_plan.proofs.making.planning.Planning.item_step.Goals as goal
 
 pub returns-in-Count : goal.returns-in-Count

@@ -1,13 +1,13 @@
 use Rattle.std.proofs.Common.{◌≡◌, Err, List, subst, sym}
 use Rattle.std.specs.Global.{Vec}
-use Rattle.td_check.specs.StaticTypes.{named_types}
+use Rattle.td_check.specs.model.StaticTypes.{named_types}
 use Rattle.td_plan.proofs.PlannedAnswers.{no_value}
 use Rattle.td_plan.proofs.PlannedLists.{parts_are}
 use Rattle.td_plan.specs.code.PlannedParts.{ArePlansOfTyped, in_named}
 use Rattle.td_plan.specs.code.StepViews.{steps_view}
-use Rattle.td_tree.specs.Outcomes.{Answers, Valued}
+use Rattle.td_tree.specs.model.Outcomes.{Answers, Valued}
 use Rattle.td_tree.specs.code.TreeViews.{named_view}
-use Rattle.td_types.specs.Types.{Attribute}
+use Rattle.td_types.specs.model.Types.{Attribute}
 use Rattle.td_types.specs.code.Views.{pairs_view}
 use Rattle.td_plan.proofs.making.planning.Planning.part_columns.Goals as goal
 

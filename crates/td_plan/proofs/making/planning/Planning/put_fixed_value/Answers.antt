@@ -1,10 +1,10 @@
 use Rattle.std.proofs.Common.{◌≡◌, ◌∙◌, ap, subst, sym}
 use Rattle.td_plan.proofs.FixedValues.{one_fixed, one_more_fixed}
-use Rattle.td_plan.specs.Fixing.{MayFix}
-use Rattle.td_plan.specs.Narrowing.{AreFixed}
+use Rattle.td_plan.specs.code.Fixing.{MayFix}
+use Rattle.td_plan.specs.code.Narrowing.{AreFixed}
 use Rattle.td_plan.specs.code.StepViews.{step_view}
 use Rattle.td_tree.specs.code.TreeViews.{tree_view}
-use Rattle.td_tree.specs.Trees as trees
+use Rattle.td_tree.specs.model.Trees as trees
 use Rattle.td_plan.proofs.making.planning.Planning.put_fixed_value.Goals as goal
 
 pub returns : goal.returns

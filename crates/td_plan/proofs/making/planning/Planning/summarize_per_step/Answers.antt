@@ -1,17 +1,17 @@
 use Rattle.std.proofs.Common.{◌≡◌, ◌∙◌, subst, sym}
 use Rattle.std.specs.Prelude.{IfNone, IfSome}
-use Rattle.td_check.specs.Scopes.{entered_with}
-use Rattle.td_check.specs.StaticTypes.{type_of}
-use Rattle.td_eval.specs.AggregateValues.{summary_attributes}
+use Rattle.td_check.specs.model.Scopes.{entered_with}
+use Rattle.td_check.specs.model.StaticTypes.{type_of}
+use Rattle.td_eval.specs.model.AggregateValues.{summary_attributes}
 use Rattle.td_plan.proofs.PlannedAnswers.{untyped_planned}
 use Rattle.td_plan.proofs.PlannedSummaries.{aggregates_are, per_of_none, per_of_refused, summary_planned}
 use Rattle.td_plan.specs.code.PlannedParts.{AreFoundColumns, in_summaries}
-use Rattle.td_tree.specs.Outcomes.{Valued}
+use Rattle.td_tree.specs.model.Outcomes.{Valued}
 use Rattle.td_tree.specs.code.TreeViews.{summaries_view, tree_view}
-use Rattle.td_tree.specs.Trees as trees
-use Rattle.td_types.specs.Types.{Heading, pack, relation}
+use Rattle.td_tree.specs.model.Trees as trees
+use Rattle.td_types.specs.model.Types.{Heading, pack, relation}
 use Rattle.td_plan.proofs.StepRows.{summarize_per_is}
-use Rattle.td_plan.specs.PlansOf.{IsPlanOfTyped}
+use Rattle.td_plan.specs.code.PlansOf.{IsPlanOfTyped}
 use Rattle.td_plan.specs.code.StepViews.{step_view, steps_view}
 use Rattle.td_types.specs.code.Views.{pairs_view}
 use Rattle.td_plan.proofs.making.planning.Planning.summarize_per_step.Goals as goal

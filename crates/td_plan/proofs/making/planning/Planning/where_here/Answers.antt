@@ -1,16 +1,16 @@
 use Rattle.std.proofs.Common.{◌≡◌, subst}
 use Rattle.std.proofs.lemmas.Result.{IfOk-weaker}
 use Rattle.std.specs.Prelude.{IfNone, IfSome}
-use Rattle.td_check.specs.OperatorTypes.{restriction_type}
-use Rattle.td_check.specs.Scopes.{entered_with}
-use Rattle.td_check.specs.StaticTypes.{type_of}
+use Rattle.td_check.specs.model.OperatorTypes.{restriction_type}
+use Rattle.td_check.specs.model.Scopes.{entered_with}
+use Rattle.td_check.specs.model.StaticTypes.{type_of}
 use Rattle.td_plan.proofs.PlannedAnswers.{relation_typed}
-use Rattle.td_tree.specs.Outcomes.{Valued, with_value}
+use Rattle.td_tree.specs.model.Outcomes.{Valued, with_value}
 use Rattle.td_tree.specs.code.TreeViews.{tree_view}
-use Rattle.td_types.specs.Types.{Heading, pack}
-use Rattle.td_types.specs.Types as types
+use Rattle.td_types.specs.model.Types.{Heading, pack}
+use Rattle.td_types.specs.model.Types as types
 use Rattle.td_plan.proofs.PlannedTuples.{restriction_planned}
-use Rattle.td_plan.specs.PlansOf.{IsPlanOfTyped}
+use Rattle.td_plan.specs.code.PlansOf.{IsPlanOfTyped}
 use Rattle.td_plan.specs.code.StepViews.{step_view}
 use Rattle.td_plan.proofs.making.planning.Planning.where_here.Goals as goal
 

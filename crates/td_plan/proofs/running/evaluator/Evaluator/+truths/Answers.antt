@@ -1,11 +1,11 @@
 use Rattle.std.proofs.Common.{arith, map}
-use Rattle.td_eval.specs.OperatorValues.{truth_value}
+use Rattle.td_eval.specs.model.OperatorValues.{truth_value}
 use Rattle.td_plan.proofs.Hoisting.{kept_hoisted, ready_hoisted}
 use Rattle.td_plan.proofs.MemoLaws.{ready_still}
 use Rattle.td_plan.proofs.QuickRows.{truths_gathered}
 use Rattle.td_plan.proofs.ValuedBelow.{lower}
 use Rattle.td_plan.specs.code.QuickInside.{value_inside}
-use Rattle.td_tree.specs.Outcomes.{Answers, gathered}
+use Rattle.td_tree.specs.model.Outcomes.{Answers, gathered}
 use Rattle.td_plan.proofs.running.evaluator.Evaluator.+truths.Goals as goal
 
 pub truths-requires : goal.truths-requires

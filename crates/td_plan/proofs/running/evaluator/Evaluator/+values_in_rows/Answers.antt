@@ -6,8 +6,8 @@ use Rattle.td_plan.proofs.ValuedBelow.{lower}
 use Rattle.td_plan.specs.code.Hands.{slots_in}
 use Rattle.td_plan.specs.code.Runs.{all_of_type, of_type_asked, type_asked, value_in}
 use Rattle.td_tree.proofs.code_lemmas.Gatherings.{collected_next}
-use Rattle.td_tree.specs.Outcomes.{Answers}
-use Rattle.td_value.specs.Values.{Tuple}
+use Rattle.td_tree.specs.model.Outcomes.{Answers}
+use Rattle.td_value.specs.model.Values.{Tuple}
 use Rattle.td_plan.proofs.running.evaluator.Evaluator.+values_in_rows.Goals as goal
 
 pub values_in_rows-requires : goal.values_in_rows-requires

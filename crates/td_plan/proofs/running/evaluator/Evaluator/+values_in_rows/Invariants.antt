@@ -3,7 +3,7 @@ use Rattle.td_plan.specs.code.Hands.{slots_in}
 use Rattle.td_plan.specs.code.Memos.{IsSound, KeepsBelow}
 use Rattle.td_plan.specs.code.Runs.{of_type_asked, type_asked, value_in}
 use Rattle.td_plan.specs.code.StepHeights.{step_height}
-use Rattle.td_tree.specs.Gatherings.{IsGathered}
+use Rattle.td_tree.specs.code.Gatherings.{IsGathered}
 use Rattle.td_plan.proofs.running.evaluator.Evaluator.+values_in_rows.Given as goal
 
 abbrev pub decreases-values_in_rows : goal.decreases-values_in_rows

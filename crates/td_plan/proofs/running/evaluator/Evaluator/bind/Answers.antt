@@ -2,11 +2,11 @@ use Rattle.std.proofs.Common.{◌∙◌, ap, refl, subst, sym, Ok}
 use Rattle.std.proofs.lemmas.Result.{err_from_is_err_and}
 use Rattle.std.specs.Borrow.{Bor}
 use Rattle.td_plan.proofs.BoundRuns.{item_entered, item_refused, item_untupled, no_memory}
-use Rattle.td_plan.specs.Plans.{with_slot}
+use Rattle.td_plan.specs.code.Plans.{with_slot}
 use Rattle.td_plan.specs.code.Bindings.{IsEntered, where_in_slot}
 use Rattle.td_plan.specs.code.Hands.{slots_in, slots_of}
 use Rattle.td_plan.specs.code.Memos.{IsMemo}
-use Rattle.td_value.specs.Values.{Tuple}
+use Rattle.td_value.specs.model.Values.{Tuple}
 use Rattle.td_value.specs.code.Views.{values_of}
 use Rattle.td_plan.proofs.running.evaluator.Evaluator.bind.Goals as goal
 

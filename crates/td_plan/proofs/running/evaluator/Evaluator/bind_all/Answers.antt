@@ -4,7 +4,7 @@ use Rattle.td_plan.proofs.BoundRuns.{GoesOn, items_here, next_entered, next_refu
 use Rattle.td_plan.proofs.SoundSteps.{sound_at}
 use Rattle.td_plan.proofs.StepHeights.{height_part}
 use Rattle.td_plan.proofs.ValuedBelow.{lower}
-use Rattle.td_plan.specs.Plans.{plan_where_bound}
+use Rattle.td_plan.specs.code.Plans.{plan_where_bound}
 use Rattle.td_plan.specs.code.Hands.{slots_in}
 use Rattle.td_plan.specs.code.StepViews.{steps_view}
 use Rattle.td_plan.proofs.running.evaluator.Evaluator.bind_all.Goals as goal

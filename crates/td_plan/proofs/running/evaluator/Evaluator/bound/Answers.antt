@@ -1,10 +1,10 @@
 use Rattle.std.proofs.Common.{◌∙◌, ap, rules, subst, sym, refl}
 use Rattle.td_plan.proofs.SlotLaws.{agree_before}
-use Rattle.td_plan.specs.Plans.{plan_value, plan_where_bound, slots_before}
+use Rattle.td_plan.specs.code.Plans.{plan_value, plan_where_bound, slots_before}
 use Rattle.td_plan.specs.code.Hands.{slots_of}
 use Rattle.td_plan.specs.code.Memos.{IsMemo}
 use Rattle.td_plan.specs.code.StepViews.{step_view, steps_view}
-use Rattle.td_tree.specs.Outcomes.{Answers}
+use Rattle.td_tree.specs.model.Outcomes.{Answers}
 use Rattle.td_plan.proofs.running.evaluator.Evaluator.bound.Goals as goal
 
 pub returns-in_err-rows : goal.returns-in_err-rows

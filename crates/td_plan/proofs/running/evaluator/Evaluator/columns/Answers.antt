@@ -1,7 +1,7 @@
 use Rattle.std.proofs.Common.{List, ap, rules, ℕ}
 use Rattle.std.specs.Global.{Vec}
 use Rattle.std.specs.List.{zip}
-use Rattle.td_algebra.specs.Columns.{columns_view}
+use Rattle.td_algebra.specs.code.Columns.{columns_view}
 use Rattle.td_algebra.specs.declared.extension.Column.{Column}
 use Rattle.td_eval.proofs.code_lemmas.WalkedColumns.{beside_at, beside_past, beside_within}
 use Rattle.td_eval.proofs.code_lemmas.WalkedLists.{walked}
@@ -13,7 +13,7 @@ use Rattle.td_plan.proofs.ValuedBelow.{lower}
 use Rattle.td_plan.specs.code.Hands.{slots_in}
 use Rattle.td_plan.specs.declared.plan.step.Step.{Step}
 use Rattle.td_tree.proofs.code_lemmas.Gatherings.{collected_next}
-use Rattle.td_tree.specs.Outcomes.{gathered}
+use Rattle.td_tree.specs.model.Outcomes.{gathered}
 use Rattle.td_types.specs.declared.ty.Ty.{Ty}
 use Rattle.td_plan.proofs.running.evaluator.Evaluator.columns.Goals as goal
 

@@ -1,10 +1,10 @@
 use Rattle.std.proofs.Common.{map, take}
 use Rattle.std.specs.List.{zip}
-use Rattle.td_algebra.specs.Columns.{columns_view}
+use Rattle.td_algebra.specs.code.Columns.{columns_view}
 use Rattle.td_plan.proofs.RunLaws.{column_found}
 use Rattle.td_plan.specs.code.Hands.{slots_in}
 use Rattle.td_plan.specs.code.Memos.{AreSound, KeepsBelow}
-use Rattle.td_tree.specs.Gatherings.{IsGathered}
+use Rattle.td_tree.specs.code.Gatherings.{IsGathered}
 use Rattle.td_plan.proofs.running.evaluator.Evaluator.columns.Given as goal
 
 abbrev pub invariant-loop-place : goal.invariant-loop-place

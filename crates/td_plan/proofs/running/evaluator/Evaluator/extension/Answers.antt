@@ -1,17 +1,17 @@
 use Rattle.std.proofs.Common.{◌≡◌, ◌≢◌, arith, length, refl, rules, subst}
 use Rattle.std.proofs.lemmas.List.{length-map}
-use Rattle.td_algebra.specs.Columns.{columns_view}
+use Rattle.td_algebra.specs.code.Columns.{columns_view}
 use Rattle.td_eval.proofs.code_lemmas.WalkedExtension.{related}
 use Rattle.td_eval.specs.code.NewColumns.{named_columns}
-use Rattle.td_eval.specs.OperatorValues.{extended_by_settings}
+use Rattle.td_eval.specs.model.OperatorValues.{extended_by_settings}
 use Rattle.td_plan.proofs.MemoLaws.{kept_outside, ready_below}
 use Rattle.td_plan.proofs.RunLaws.{as_many_columns, columns_for, where_equal, where_unequal}
 use Rattle.td_plan.proofs.ValuedBelow.{lower}
 use Rattle.td_plan.specs.code.Hands.{slots_in, slots_of}
 use Rattle.td_plan.specs.code.Memos.{AreSound}
 use Rattle.td_plan.specs.code.Runs.{values_in}
-use Rattle.td_plan.specs.Plans.{extension_of}
-use Rattle.td_tree.specs.Outcomes.{Answers, Valued, gathered}
+use Rattle.td_plan.specs.code.Plans.{extension_of}
+use Rattle.td_tree.specs.model.Outcomes.{Answers, Valued, gathered}
 use Rattle.td_types.specs.code.Pairs.{pair_view}
 use Rattle.td_types.specs.code.Views.{pairs_view}
 use Rattle.td_plan.proofs.running.evaluator.Evaluator.extension.Goals as goal

@@ -2,7 +2,7 @@ use Rattle.std.proofs.Common.{◌∙◌, ap, arith, refl}
 use Rattle.td_plan.proofs.Hoisting.{hoisted_value}
 use Rattle.td_plan.proofs.StepParts.{bound_apart, bound_made}
 use Rattle.td_plan.proofs.ValuedBelow.{lower}
-use Rattle.td_plan.specs.Plans.{plan_value, with_slot}
+use Rattle.td_plan.specs.code.Plans.{plan_value, with_slot}
 use Rattle.td_plan.specs.code.Hands.{slots_in}
 use Rattle.td_plan.specs.code.StepViews.{step_view, steps_view}
 use Rattle.td_value.specs.code.Views.{values_of}

@@ -1,6 +1,6 @@
 use Rattle.std.proofs.Common.{◌∙◌, ◌≡◌, ap, arith, refl, subst, sym}
 use Rattle.td_plan.proofs.SlotLaws.{agree_before}
-use Rattle.td_plan.specs.Plans.{plan_where_bound, slots_before}
+use Rattle.td_plan.specs.code.Plans.{plan_where_bound, slots_before}
 use Rattle.td_plan.specs.code.Hands.{slots_in}
 use Rattle.td_plan.specs.code.Memos.{AgreeBelow, IsMemo}
 use Rattle.td_plan.specs.code.StepViews.{steps_view}

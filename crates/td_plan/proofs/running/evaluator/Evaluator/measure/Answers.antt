@@ -1,10 +1,10 @@
 use Rattle.std.proofs.Common.{◌∙◌, ap, subst, sym}
 use Rattle.td_plan.proofs.PartnerValues.{measured}
-use Rattle.td_plan.specs.Counted.{number_measured}
-use Rattle.td_plan.specs.Plans.{plan_value}
+use Rattle.td_plan.specs.code.Counted.{number_measured}
+use Rattle.td_plan.specs.code.Plans.{plan_value}
 use Rattle.td_plan.specs.code.Hands.{slots_of}
 use Rattle.td_plan.specs.code.StepViews.{step_view}
-use Rattle.td_tree.specs.Outcomes.{Answers}
+use Rattle.td_tree.specs.model.Outcomes.{Answers}
 use Rattle.td_plan.proofs.running.evaluator.Evaluator.measure.Goals as goal
 
 pub returns-in-Some : goal.returns-in-Some

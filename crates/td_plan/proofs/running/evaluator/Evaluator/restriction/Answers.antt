@@ -6,13 +6,13 @@ use Rattle.td_eval.proofs.code_lemmas.WalkedExtension.{related}
 use Rattle.td_plan.proofs.MemoLaws.{kept_outside, ready_below}
 use Rattle.td_plan.proofs.ValuedBelow.{lower}
 use Rattle.td_plan.specs.code.Hands.{slots_in, slots_of}
-use Rattle.td_value.specs.Values.{Relation, Val}
+use Rattle.td_value.specs.model.Values.{Relation, Val}
 use Rattle.td_eval.proofs.code_lemmas.WalkedLists.{of_as_many}
-use Rattle.td_eval.specs.OperatorValues.{on_relation, restricted_value, truth_value}
+use Rattle.td_eval.specs.model.OperatorValues.{on_relation, restricted_value, truth_value}
 use Rattle.td_plan.proofs.RunLaws.{unrelated}
 use Rattle.td_plan.specs.code.Memos.{IsSound}
 use Rattle.td_plan.specs.code.Runs.{step_value, truths_in, value_in}
-use Rattle.td_tree.specs.Outcomes.{Answers, gathered}
+use Rattle.td_tree.specs.model.Outcomes.{Answers, gathered}
 use Rattle.td_plan.proofs.running.evaluator.Evaluator.restriction.Goals as goal
 
 pub run-requires-clause-below : goal.run-requires-clause-below

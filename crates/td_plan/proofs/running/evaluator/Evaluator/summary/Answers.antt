@@ -6,10 +6,10 @@ use Rattle.std.specs.Global.{Vec}
 use Rattle.std.specs.List.{zip}
 use Rattle.td_eval.proofs.code_lemmas.OpValues.{related as both_related}
 use Rattle.td_eval.proofs.code_lemmas.WalkedTotals.{as_many_totals, totals_given, totals_refused}
-use Rattle.td_eval.specs.AggregateValues.{summarized_value, summary_value}
+use Rattle.td_eval.specs.model.AggregateValues.{summarized_value, summary_value}
 use Rattle.td_eval.specs.code.Totals.{total_of, total_view}
 use Rattle.td_group.specs.declared.aggregates.Agg.{Agg}
-use Rattle.td_group.specs.Groups.{groups}
+use Rattle.td_group.specs.model.Groups.{groups}
 use Rattle.td_plan.proofs.MemoLaws.{kept_outside, ready_below}
 use Rattle.td_plan.proofs.RunLaws.{where_equal, where_unequal}
 use Rattle.td_plan.proofs.SummaryLaws.{as_many_items, relations_refused}
@@ -17,12 +17,12 @@ use Rattle.td_plan.specs.code.Hands.{slots_in, slots_of}
 use Rattle.td_plan.specs.code.Memos.{AreSound}
 use Rattle.td_plan.specs.code.Runs.{values_in}
 use Rattle.td_tree.specs.declared.cause.Cause.TheVariants as causes
-use Rattle.td_tree.specs.Outcomes.{Answers, Valued, gathered}
+use Rattle.td_tree.specs.model.Outcomes.{Answers, Valued, gathered}
 use Rattle.td_types.proofs.OutcomeLaws.{value_of_test}
-use Rattle.td_types.specs.Headings.{is_part}
+use Rattle.td_types.specs.model.Headings.{is_part}
 use Rattle.td_types.specs.code.Pairs.{pair_view}
 use Rattle.td_types.specs.code.Views.{pairs_view}
-use Rattle.td_value.specs.Values.{Relation, Val}
+use Rattle.td_value.specs.model.Values.{Relation, Val}
 use Rattle.td_plan.proofs.running.evaluator.Evaluator.summary.Goals as goal
 
 pub totals-requires-clause-ready : goal.totals-requires-clause-ready

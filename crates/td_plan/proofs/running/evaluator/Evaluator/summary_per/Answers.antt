@@ -4,10 +4,10 @@ use Rattle.std.specs.List.{zip}
 use Rattle.td_check.proofs.BothAnswers.{both_given, both_refused}
 use Rattle.td_plan.specs.code.Hands.{slots_of}
 use Rattle.td_plan.specs.code.Runs.{step_value, values_in}
-use Rattle.td_plan.specs.Plans.{summary_of}
-use Rattle.td_tree.specs.Outcomes.{Answers}
+use Rattle.td_plan.specs.code.Plans.{summary_of}
+use Rattle.td_tree.specs.model.Outcomes.{Answers}
 use Rattle.td_types.specs.code.Views.{pairs_view}
-use Rattle.td_value.specs.Values.{Val}
+use Rattle.td_value.specs.model.Values.{Val}
 use Rattle.td_plan.proofs.running.evaluator.Evaluator.summary_per.Goals as goal
 
 pub returns-in_err-operand : goal.returns-in_err-operand

@@ -12,7 +12,7 @@ use Rattle.td_plan.proofs.ValuedBelow.{lower}
 use Rattle.td_plan.specs.code.Hands.{slots_in}
 use Rattle.td_plan.specs.code.Runs.{values_in}
 use Rattle.td_tree.proofs.code_lemmas.Gatherings.{collected_next}
-use Rattle.td_value.specs.Values.{Val}
+use Rattle.td_value.specs.model.Values.{Val}
 use Rattle.td_plan.proofs.running.evaluator.Evaluator.totals.Goals as goal
 
 pub values_in_groups-values-requires-clause-ready : goal.values_in_groups-values-requires-clause-ready

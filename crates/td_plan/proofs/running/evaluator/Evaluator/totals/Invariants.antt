@@ -4,7 +4,7 @@ use Rattle.td_eval.specs.code.Totals.{total_of, total_view}
 use Rattle.td_plan.specs.code.Hands.{slots_in}
 use Rattle.td_plan.specs.code.Memos.{AreSound, KeepsBelow}
 use Rattle.td_plan.specs.code.Runs.{values_in}
-use Rattle.td_tree.specs.Gatherings.{IsGathered}
+use Rattle.td_tree.specs.code.Gatherings.{IsGathered}
 use Rattle.td_plan.proofs.running.evaluator.Evaluator.totals.Given as goal
 
 abbrev pub invariant-loop-place : goal.invariant-loop-place

@@ -2,10 +2,10 @@ use Rattle.td_plan.proofs.MemoLaws.{kept_inside, ready_inside}
 use Rattle.td_plan.specs.code.Hands.{slots_in, slots_of}
 use Rattle.td_plan.specs.code.Memos.{IsSound}
 use Rattle.td_plan.specs.code.Runs.{step_value}
-use Rattle.td_plan.specs.Plans.{Slots}
-use Rattle.td_tree.specs.Outcomes.{Answers}
+use Rattle.td_plan.specs.code.Plans.{Slots}
+use Rattle.td_tree.specs.model.Outcomes.{Answers}
 use Rattle.td_value.specs.code.Views.{values_of}
-use Rattle.td_eval.specs.OperatorValues.{truth_value}
+use Rattle.td_eval.specs.model.OperatorValues.{truth_value}
 use Rattle.td_plan.proofs.running.evaluator.Evaluator.truth_in_row.Goals as goal
 
 pub truth_with-truth-requires-clause-ready : goal.truth_with-truth-requires-clause-ready

@@ -1,5 +1,5 @@
 use Rattle.std.proofs.Common.{ap}
-use Rattle.td_eval.specs.OperatorValues.{truth_value}
+use Rattle.td_eval.specs.model.OperatorValues.{truth_value}
 use Rattle.td_plan.proofs.running.evaluator.Evaluator.truth_with.Goals as goal
 
 pub returns-in-Some : goal.returns-in-Some

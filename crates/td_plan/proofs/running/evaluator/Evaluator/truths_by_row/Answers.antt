@@ -3,8 +3,8 @@ use Rattle.td_eval.proofs.code_lemmas.WalkedLists.{walked_values}
 use Rattle.td_plan.specs.code.Hands.{slots_in}
 use Rattle.td_plan.specs.code.Runs.{value_in}
 use Rattle.td_tree.proofs.code_lemmas.Gatherings.{collected_next}
-use Rattle.td_value.specs.Values.{Tuple}
-use Rattle.td_eval.specs.OperatorValues.{truth_value}
+use Rattle.td_value.specs.model.Values.{Tuple}
+use Rattle.td_eval.specs.model.OperatorValues.{truth_value}
 use Rattle.td_plan.proofs.MemoLaws.{ready_still}
 use Rattle.td_plan.proofs.running.evaluator.Evaluator.truths_by_row.Goals as goal
 

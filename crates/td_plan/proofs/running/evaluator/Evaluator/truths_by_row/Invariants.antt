@@ -2,8 +2,8 @@ use Rattle.std.proofs.Common.{map, take}
 use Rattle.td_plan.specs.code.Hands.{slots_in}
 use Rattle.td_plan.specs.code.Memos.{IsSound, KeepsBelow}
 use Rattle.td_plan.specs.code.Runs.{value_in}
-use Rattle.td_tree.specs.Gatherings.{IsGathered}
-use Rattle.td_eval.specs.OperatorValues.{truth_value}
+use Rattle.td_tree.specs.code.Gatherings.{IsGathered}
+use Rattle.td_eval.specs.model.OperatorValues.{truth_value}
 use Rattle.td_plan.proofs.running.evaluator.Evaluator.truths_by_row.Given as goal
 
 abbrev pub invariant-loop-row : goal.invariant-loop-row

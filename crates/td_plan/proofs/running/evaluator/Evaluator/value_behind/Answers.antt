@@ -1,11 +1,11 @@
 use Rattle.std.proofs.Common.{◌∙◌, ap, subst, sym}
 use Rattle.std.proofs.lemmas.Result.{err_from_is_err_and}
-use Rattle.td_plan.specs.Plans.{plan_value}
+use Rattle.td_plan.specs.code.Plans.{plan_value}
 use Rattle.td_plan.specs.code.Hands.{slots_in, slots_of}
 use Rattle.td_plan.specs.code.Memos.{IsMemo}
 use Rattle.td_plan.specs.code.Runs.{step_value}
 use Rattle.td_plan.specs.code.StepViews.{step_view}
-use Rattle.td_tree.specs.Outcomes.{Answers}
+use Rattle.td_tree.specs.model.Outcomes.{Answers}
 use Rattle.td_plan.proofs.running.evaluator.Evaluator.value_behind.Goals as goal
 
 pub returns-in_err-bind_all : goal.returns-in_err-bind_all

@@ -5,8 +5,8 @@ use Rattle.td_plan.proofs.SummaryLaws.{group_found}
 use Rattle.td_plan.specs.code.Hands.{slots_in}
 use Rattle.td_plan.specs.code.Runs.{value_in}
 use Rattle.td_tree.proofs.code_lemmas.Gatherings.{collected_next}
-use Rattle.td_tree.specs.Outcomes.{Answers, gathered}
-use Rattle.td_value.specs.Values.{Val}
+use Rattle.td_tree.specs.model.Outcomes.{Answers, gathered}
+use Rattle.td_value.specs.model.Values.{Val}
 use Rattle.td_plan.proofs.MemoLaws.{ready_still}
 use Rattle.td_plan.proofs.running.evaluator.Evaluator.values_in_groups.Goals as goal
 

@@ -2,7 +2,7 @@ use Rattle.std.proofs.Common.{map, take}
 use Rattle.td_plan.proofs.SummaryLaws.{group_found}
 use Rattle.td_plan.specs.code.Hands.{slots_in}
 use Rattle.td_plan.specs.code.Memos.{IsSound, KeepsBelow}
-use Rattle.td_tree.specs.Gatherings.{IsGathered}
+use Rattle.td_tree.specs.code.Gatherings.{IsGathered}
 use Rattle.td_plan.proofs.running.evaluator.Evaluator.values_in_groups.Given as goal
 
 abbrev pub invariant-loop-group : goal.invariant-loop-group

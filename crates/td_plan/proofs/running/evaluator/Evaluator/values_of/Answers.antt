@@ -6,7 +6,7 @@ use Rattle.td_plan.proofs.StepHeights.{height_part}
 use Rattle.td_plan.specs.code.Hands.{slots_of}
 use Rattle.td_plan.specs.code.Runs.{step_value}
 use Rattle.td_tree.proofs.code_lemmas.Gatherings.{collected_next}
-use Rattle.td_tree.specs.Outcomes.{gathered}
+use Rattle.td_tree.specs.model.Outcomes.{gathered}
 use Rattle.td_plan.proofs.ValuedBelow.{lower}
 use Rattle.td_plan.proofs.running.evaluator.Evaluator.values_of.Goals as goal
 

@@ -2,7 +2,7 @@ use Rattle.std.proofs.Common.{map, take}
 use Rattle.td_plan.specs.code.Hands.{slots_of}
 use Rattle.td_plan.specs.code.Memos.{AreSound, Keeps}
 use Rattle.td_plan.specs.code.Runs.{step_value}
-use Rattle.td_tree.specs.Gatherings.{IsGathered}
+use Rattle.td_tree.specs.code.Gatherings.{IsGathered}
 use Rattle.td_plan.proofs.running.evaluator.Evaluator.values_of.Given as goal
 
 abbrev pub invariant-loop-step : goal.invariant-loop-step

@@ -5,10 +5,10 @@ use Rattle.td_tree.specs.declared.expression.Summary.{Summary}
 use Rattle.td_tree.specs.declared.expression.Summary.TheVariants as s
 use Rattle.td_tree.specs.declared.keyword.Keyword.TheVariants as k
 use Rattle.td_tree.specs.declared.token.Sign.TheVariants as signs
-use Rattle.td_tree.specs.Grammar.{aggregate_word}
-use Rattle.td_tree.specs.Lexemes.{Lexeme, keyword, name, sign}
-use Rattle.td_tree.specs.Lists.{with_braces, with_parentheses}
-use Rattle.td_tree.specs.Prints.{addition_lexemes, all_lexemes, as_lexemes, attributes_lexemes, commas, heading_lexemes, lexemes_of, part_lexemes, setting_lexemes, summary_lexemes}
+use Rattle.td_tree.specs.model.Grammar.{aggregate_word}
+use Rattle.td_tree.specs.model.Lexemes.{Lexeme, keyword, name, sign}
+use Rattle.td_tree.specs.model.Lists.{with_braces, with_parentheses}
+use Rattle.td_tree.specs.model.Prints.{addition_lexemes, all_lexemes, as_lexemes, attributes_lexemes, commas, heading_lexemes, lexemes_of, part_lexemes, setting_lexemes, summary_lexemes}
 use Rattle.td_tree.specs.code.TreeViews.{attributes_view, heading_tree_view, named_view, summaries_view, tree_view, trees_view}
 use Rattle.td_tree.specs.code.Written.{comma_lexeme_if, written_text}
 use Rattle.td_tree.proofs.print.words.Printer.+printer.Goals as goal

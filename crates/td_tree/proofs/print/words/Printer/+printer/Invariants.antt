@@ -1,6 +1,6 @@
 use Rattle.std.proofs.Common.{◌≡◌, ◌++◌, drop}
 use Rattle.td_tree.proofs.code_lemmas.Writing.{listed}
-use Rattle.td_tree.specs.Prints.{addition_lexemes, all_lexemes, commas, part_lexemes, setting_lexemes, summary_lexemes}
+use Rattle.td_tree.specs.model.Prints.{addition_lexemes, all_lexemes, commas, part_lexemes, setting_lexemes, summary_lexemes}
 use Rattle.td_tree.specs.code.TreeViews.{named_view, summaries_view, trees_view}
 use Rattle.td_tree.specs.code.Written.{written_text}
 use Rattle.td_tree.proofs.print.words.Printer.+printer.Given as goal

@@ -2,8 +2,8 @@ use Rattle.std.proofs.Common.{◌∙◌, [], ◌∷◌, ap, sym}
 use Rattle.td_tree.proofs.code_lemmas.Rows.{relation_type_is, tuple_type_is}
 use Rattle.td_tree.proofs.code_lemmas.Writing.{last_put}
 use Rattle.td_tree.specs.declared.keyword.Keyword.TheVariants as k
-use Rattle.td_tree.specs.Lexemes.{keyword}
-use Rattle.td_tree.specs.Prints.{heading_lexemes, type_lexemes}
+use Rattle.td_tree.specs.model.Lexemes.{keyword}
+use Rattle.td_tree.specs.model.Prints.{heading_lexemes, type_lexemes}
 use Rattle.td_tree.specs.code.TreeViews.{heading_tree_view, type_tree_view}
 use Rattle.td_tree.proofs.print.words.Printer.+type_printer.Goals as goal
 

@@ -1,6 +1,6 @@
 use Rattle.std.proofs.Common.{◌≡◌, ◌++◌, drop}
 use Rattle.td_tree.proofs.code_lemmas.Writing.{listed}
-use Rattle.td_tree.specs.Prints.{attribute_lexemes, commas}
+use Rattle.td_tree.specs.model.Prints.{attribute_lexemes, commas}
 use Rattle.td_tree.specs.code.TreeViews.{heading_tree_view}
 use Rattle.td_tree.specs.code.Written.{written_text}
 use Rattle.td_tree.proofs.print.words.Printer.+type_printer.Given as goal

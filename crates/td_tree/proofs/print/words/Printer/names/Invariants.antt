@@ -1,7 +1,7 @@
 use Rattle.std.proofs.Common.{◌≡◌, [], ◌∷◌, ◌++◌, drop, map}
 use Rattle.td_tree.proofs.code_lemmas.Writing.{listed}
-use Rattle.td_tree.specs.Lexemes as lexeme
-use Rattle.td_tree.specs.Prints.{name_lexemes}
+use Rattle.td_tree.specs.model.Lexemes as lexeme
+use Rattle.td_tree.specs.model.Prints.{name_lexemes}
 use Rattle.td_tree.specs.code.Written.{written_text}
 use Rattle.td_tree.proofs.print.words.Printer.names.Given as goal
 

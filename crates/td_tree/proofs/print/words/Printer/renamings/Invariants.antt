@@ -1,6 +1,6 @@
 use Rattle.std.proofs.Common.{◌≡◌, ◌++◌, drop, map}
 use Rattle.td_tree.proofs.code_lemmas.Writing.{listed}
-use Rattle.td_tree.specs.Prints.{commas, renaming_lexemes}
+use Rattle.td_tree.specs.model.Prints.{commas, renaming_lexemes}
 use Rattle.td_tree.specs.code.TreeViews.{renaming_view}
 use Rattle.td_tree.specs.code.Written.{written_text}
 use Rattle.td_tree.proofs.print.words.Printer.renamings.Given as goal

@@ -1,0 +1,4 @@
+pub mod Equalities
+pub mod Fitting
+pub mod Membership
+pub mod Results

@@ -1,0 +1,2 @@
+pub mod NamedRelvars
+pub mod TypedDatabaseLaws

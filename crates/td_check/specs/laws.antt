@@ -1,0 +1,4 @@
+pub mod CannotFail
+pub mod StaticCauses
+pub mod StaticLaws
+pub mod WrittenNames

@@ -1,0 +1,4 @@
+pub mod Additions
+pub mod LeftOut
+pub mod LegalityLaws
+pub mod Rebuilding

@@ -1,0 +1,9 @@
+pub mod Assignments
+pub mod Checks
+pub mod Faults
+pub mod Legality
+pub mod Machine
+pub mod Refusals
+pub mod Scripts
+pub mod Standing
+pub mod Told

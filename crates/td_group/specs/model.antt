@@ -1,0 +1,4 @@
+pub mod Aggregates
+pub mod Closure
+pub mod Groups
+pub mod Nesting

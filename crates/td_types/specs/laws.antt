@@ -1,0 +1,4 @@
+pub mod HeadingLaws
+pub mod TextLaws
+pub mod TypeListLaws
+pub mod TypeTrees

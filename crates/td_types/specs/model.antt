@@ -1,0 +1,5 @@
+pub mod Headings
+pub mod NamedTypes
+pub mod Texts
+pub mod TypeLists
+pub mod Types

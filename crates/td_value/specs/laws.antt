@@ -1,0 +1,4 @@
+pub mod AgreementLaws
+pub mod KnownValueLaws
+pub mod Laws
+pub mod LiteralTrees

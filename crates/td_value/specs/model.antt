@@ -1,0 +1,5 @@
+pub mod Agreement
+pub mod KnownValues
+pub mod Literal
+pub mod Sets
+pub mod Values
