@@ -35,7 +35,7 @@ CHAPTERS = {
         "td_tree: WrittenTrees", "td_catalog: WrittenDefinitions TypedDatabases",
         "td_eval: MetConstraints", "td_engine: Legality",
     ],
-    "What a run promises": ["td_engine: Told Faults Scripts Standing"],
+    "What a run promises": ["td_engine: Told Faults Scripts Standing Promises"],
 }
 CODE, ELSEWHERE = "Types of the code", "Elsewhere"
 GHOST_USE = re.compile(r"^ghost use .*;$", re.MULTILINE)

@@ -1,19 +1,18 @@
 -- What a run writes, as its answers or as the dump of what it leaves.
-use Rattle.std.proofs.Common.{◌≡◌, ◌∙◌, ℕ, Bool, List, [], Option, Some, None, Result, Ok, Err, ap, refl, sym, subst, append-nil, arith, true≢false}
-use Rattle.std.specs.Prelude.{IfErr, IfOk, IsFalse, IsOk, IsTrue, take, nat_lt, if◌then◌else◌, ◌&&◌, ◌++◌, true, false}
+use Rattle.std.proofs.Common.{◌≡◌, ◌∙◌, ℕ, Bool, List, [], Option, Some, None, Result, Ok, Err, ap, refl, sym, subst, append-nil, arith}
+use Rattle.std.specs.Prelude.{IfErr, IfOk, IsTrue, OnOk, take, nat_lt, if◌then◌else◌, ◌&&◌, ◌++◌, true, false}
 use Rattle.std.specs.Io.KnownBytes.{Appends}
-use Rattle.td.specs.model.Sessions.{HasAnswered, HasBegun, HasBegunCut, HasBegunTo, HasDumpedCut, IsUnderWay, OfSession, status_of}
-use Rattle.td.specs.declared.line.Mode.{Mode}
+use Rattle.td.specs.model.Sessions.{HasAnswered, HasBegun, HasBegunTo, HasDumpedCut, IsUnderWay, OfSession, ScriptPromise, status_of}
 use Rattle.td.specs.declared.line.Mode.TheVariants.{Dump, Run}
 use Rattle.td_catalog.specs.model.Dumps.{dump_text}
 use Rattle.td_engine.proofs.law_lemmas.Runs.{runs_front}
-use Rattle.td_engine.proofs.code_lemmas.Turning.{limit_map, memory_map, ok_map, read_map, write_map}
-use Rattle.td_engine.specs.model.Faults.{IfMemory, IfNotMemory, IfRead, IfReadLimit, IfWrite}
+use Rattle.td_engine.specs.model.Faults.{IfMemory, IfRead, IfReadLimit, IfWrite}
 use Rattle.td_engine.specs.model.Machine.{State, progress_at_first}
-use Rattle.td_engine.specs.model.Scripts.{IsFront, IsRead, OfBroken, OfFront, OfScript, OfTooMuch, script_limit}
+use Rattle.td_engine.specs.model.Promises.{RunPromise, Seen, seen}
+use Rattle.td_engine.specs.model.Scripts.{IsFront, IsRead, OfFront, OfScript, script_limit}
 use Rattle.td_engine.specs.model.Legality.{IsLegalState}
-use Rattle.td_engine.specs.model.Standing.{HasRun, HasRunCut, IsLeft, IsOngoing, run_of, standing}
-use Rattle.td_engine.specs.model.Told.{AppendsIfTold}
+use Rattle.td_engine.specs.model.Standing.{HasRun, IsLeft, IsOngoing, Standing, run_of, standing}
+use Rattle.td_engine.specs.model.Told.{AppendsIfTold, StaysWhole}
 use Rattle.td_engine.specs.declared.run.Report.{Report}
 use Rattle.td_engine.specs.declared.run.RunFault.{RunFault}
 use Rattle.td_engine.specs.declared.run.RunFault.TheVariants as faults
@@ -49,10 +48,10 @@ of_session stop report before after P Q f h = (
     same true = refl
     same false = refl
 
-module _ (stop : Bool) (old new : State) (told taken : Option (List ℕ)) (legal : IsLegalState new) where
+module _ (stop : Bool) (old new : Standing) (legal : IsLegalState new.state) where
   -- the run was run to its end
-  ran : (script : List ℕ) (report : Report) → IsLeft (run_of stop (standing old told) script) (standing new taken) report
-      → HasAnswered Run (run_of stop (standing old told) script) (status_of report.refused) taken
+  ran : (script : List ℕ) (report : Report) → IsLeft (run_of stop old script) new report
+      → HasAnswered Run (run_of stop old script) (status_of report.refused) new.taken
   ran script report left =
       record {
         progress = left.progress;
@@ -63,8 +62,7 @@ module _ (stop : Bool) (old new : State) (told taken : Option (List ℕ)) (legal
       }
 
   -- a front of it was run
-  abbrev begun : (script : List ℕ) (done : ℕ) → HasRun (run_of stop (standing old told) script) done (standing new taken)
-      → HasBegun Run (run_of stop (standing old told) script) done taken
+  abbrev begun : (script : List ℕ) (done : ℕ) → HasRun (run_of stop old script) done new → HasBegun Run (run_of stop old script) done new.taken
   begun script done has =
       record {
         progress = has.progress;
@@ -74,60 +72,59 @@ module _ (stop : Bool) (old new : State) (told taken : Option (List ℕ)) (legal
         legal = subst IsLegalState has.stands.state_is legal;
       }
 
-  ran_front : (script : List ℕ) (done : ℕ) → HasRun (run_of stop (standing old told) script) done (standing new taken)
-      → HasBegunTo Run (run_of stop (standing old told) script) done (standing new taken)
+  ran_front : (script : List ℕ) (done : ℕ) → HasRun (run_of stop old script) done new → HasBegunTo Run (run_of stop old script) done new
   ran_front script done has = record { has_begun = begun script done has; state_is = has.stands.state_is }
 
-  ran_on : (script : List ℕ) (done : ℕ) → IsOngoing (run_of stop (standing old told) script) done (standing new taken)
-      → IsUnderWay Run (run_of stop (standing old told) script) done taken
+  ran_on : (script : List ℕ) (done : ℕ) → IsOngoing (run_of stop old script) done new → IsUnderWay Run (run_of stop old script) done new.taken
   ran_on script done is = record { has_begun = begun script done is.has_run; goes_on = is.goes_on }
 
-  module _ (before after : Option (List ℕ)) where
-    pub run_answers : (r : Result Report RunFault)
-        → IfOk r (λ report. OfScript script_limit report.statements (stop && nat_lt 0 report.refused) before after (λ script. IsLeft (run_of stop (standing old told) script) (standing new taken) report))
-        → IfOk r (λ report. OfSession stop (status_of report.refused) before after (λ script. HasAnswered Run (run_of stop (standing old told) script) (status_of report.refused) taken))
-    run_answers r =
-        ok_map (λ report. OfScript script_limit report.statements (stop && nat_lt 0 report.refused) before after (λ script. IsLeft (run_of stop (standing old told) script) (standing new taken) report))
-        (λ report. OfSession stop (status_of report.refused) before after (λ script. HasAnswered Run (run_of stop (standing old told) script) (status_of report.refused) taken))
-        (λ report h. of_session stop report before after _ _ (λ script left. ran script report left) h) r
-
-    pub run_memory : (fault : RunFault)
-        → IfMemory (λ done. OfFront done before after (λ script. HasRun (run_of stop (standing old told) script) done (standing new taken))) fault
-        → IfMemory (λ done. OfFront done before after (λ script. HasBegunTo Run (run_of stop (standing old told) script) done (standing new taken))) fault
-    run_memory =
-        memory_map (λ done. OfFront done before after (λ script. HasRun (run_of stop (standing old told) script) done (standing new taken)))
-        (λ done. OfFront done before after (λ script. HasBegunTo Run (run_of stop (standing old told) script) done (standing new taken)))
-        (λ done h. (h.0, h.1, h.2, h.3, λ rest may. ran_front (h.0 ++ rest) done (h.4 rest may)))
-
-    pub run_read : (P : Type 0) (fault : RunFault)
-        → IfRead (λ done. P × OfBroken done before after (λ script. IsOngoing (run_of stop (standing old told) script) done (standing new taken))) fault
-        → IfRead (λ done. P × OfBroken done before after (λ script. IsUnderWay Run (run_of stop (standing old told) script) done taken)) fault
-    run_read P =
-        read_map (λ done. P × OfBroken done before after (λ script. IsOngoing (run_of stop (standing old told) script) done (standing new taken)))
-        (λ done. P × OfBroken done before after (λ script. IsUnderWay Run (run_of stop (standing old told) script) done taken))
-        (λ done h. let w = h.1 in (h.0, (w.0, w.1, w.2, λ rest may. ran_on (w.0 ++ rest) done (w.3 rest may), w.4)))
-
-    pub run_limit : (fault : RunFault)
-        → IfReadLimit (λ done. OfTooMuch script_limit done before after (λ script. IsOngoing (run_of stop (standing old told) script) done (standing new taken))) fault
-        → IfReadLimit (λ done. OfTooMuch script_limit done before after (λ script. IsUnderWay Run (run_of stop (standing old told) script) done taken)) fault
-    run_limit =
-        limit_map (λ done. OfTooMuch script_limit done before after (λ script. IsOngoing (run_of stop (standing old told) script) done (standing new taken)))
-        (λ done. OfTooMuch script_limit done before after (λ script. IsUnderWay Run (run_of stop (standing old told) script) done taken))
-        (λ done h. (h.0, h.1, h.2, λ rest may. ran_on (h.0 ++ rest) done (h.3 rest may), h.4))
-
-    pub run_write : (P : Type 0) (fault : RunFault)
-        → IfWrite (λ done. P × OfFront done before after (λ script. HasRunCut (run_of stop (standing old told) script) done (standing new taken))) fault
-        → IfWrite (λ done. P × OfFront done before after (λ script. HasBegunCut Run (run_of stop (standing old told) script) done taken)) fault
-    run_write P =
-        write_map (λ done. P × OfFront done before after (λ script. HasRunCut (run_of stop (standing old told) script) done (standing new taken)))
-        (λ done. P × OfFront done before after (λ script. HasBegunCut Run (run_of stop (standing old told) script) done taken))
-        (λ done h. let w = h.1 in (h.0, (w.0, w.1, w.2, w.3, λ rest may. (new, w.4 rest may, legal))))
-
--- ---- facts of faults
-
-pub err_map : {T : Type 0} (P Q : RunFault → Type 0) → ((fault : RunFault) → P fault → Q fault) → (r : Result T RunFault) → IfErr r P → IfErr r Q
-err_map P Q f (Ok x) h = tt
-err_map P Q f (Err fault) h = f fault h
+-- what is promised of a run, for what it writes
+pub run_promised : (stop : Bool) (old new : Seen) (r : Result Report RunFault) → RunPromise stop script_limit old new r → ScriptPromise Run stop old new r
+run_promised stop old new (Ok report) p = record {
+  headline = p.headline;
+  answers = of_session stop report old.left new.left _ _ (λ script left. ran stop old.stands new.stands p.legal script report left) p.answers;
+  whole = p.whole;
+  memory = tt;
+  read = tt;
+  too_long = tt;
+  write = tt;
+}
+run_promised stop old new (Err (faults.Memory done)) p = record {
+  headline = p.headline;
+  answers = tt;
+  whole = tt;
+  memory = let h = p.memory in (h.0, h.1, h.2, h.3, λ rest may. ran_front stop old.stands new.stands p.legal (h.0 ++ rest) done (h.4 rest may));
+  read = tt;
+  too_long = tt;
+  write = tt;
+}
+run_promised stop old new (Err (faults.Read done)) p = record {
+  headline = p.headline;
+  answers = tt;
+  whole = tt;
+  memory = tt;
+  read = let w = p.read.1 in (p.read.0, (w.0, w.1, w.2, λ rest may. ran_on stop old.stands new.stands p.legal (w.0 ++ rest) done (w.3 rest may), w.4));
+  too_long = tt;
+  write = tt;
+}
+run_promised stop old new (Err (faults.ReadLimit done)) p = record {
+  headline = p.headline;
+  answers = tt;
+  whole = tt;
+  memory = tt;
+  read = tt;
+  too_long = let h = p.too_long in (h.0, h.1, h.2, λ rest may. ran_on stop old.stands new.stands p.legal (h.0 ++ rest) done (h.3 rest may), h.4);
+  write = tt;
+}
+run_promised stop old new (Err (faults.Write done)) p = record {
+  headline = p.headline;
+  answers = tt;
+  whole = tt;
+  memory = tt;
+  read = tt;
+  too_long = tt;
+  write = let w = p.write.1 in (p.write.0, (w.0, w.1, w.2, w.3, λ rest may. (new.stands.state, w.4 rest may, p.legal)));
+}
 
 -- ---- dumps
 
@@ -209,98 +206,80 @@ of_front : (stop : Bool) (report : Report) (before after : Option (List ℕ)) (P
 of_front stop report before after P Q done is f h =
     (h.0, h.1, h.2, subst (λ n. IsFront n h.1 after h.0) (sym is) h.3, λ rest may. f (h.0 ++ rest) (h.4 rest may))
 
--- ---- what a dump comes to after a run to the end
+-- ---- what is promised of a dump
 
-module _ (stop : Bool) (old new : State) (told taken before after : Option (List ℕ)) (legal : IsLegalState new) (report : Report)
-    (ran : OfScript script_limit report.statements (stop && nat_lt 0 report.refused) before after (λ script. IsLeft (run_of stop (standing old None) script) (standing new None) report))
-    (r : Result Report RunFault) where
-  pub dump_answers : IfOk r (λ x. (x ≡ report) × Appends told taken (dump_text new.database))
-      → IfOk r (λ x. OfSession stop (status_of x.refused) before after (λ script. HasAnswered Dump (run_of stop (standing old told) script) (status_of x.refused) taken))
-  dump_answers =
-      ok_map (λ x. (x ≡ report) × Appends told taken (dump_text new.database))
-      (λ x. OfSession stop (status_of x.refused) before after (λ script. HasAnswered Dump (run_of stop (standing old told) script) (status_of x.refused) taken))
-      (λ x h. subst (λ (y : Report). OfSession stop (status_of y.refused) before after (λ script. HasAnswered Dump (run_of stop (standing old told) script) (status_of y.refused) taken))
-      (sym h.0) (of_session stop report before after _ _ (λ script left. dumped stop old new told None legal script report left taken h.1) ran)) r
+-- after a run that was not to its end, of whose answers nothing was written
+pub fault_promised : (stop : Bool) (old new : State) (before after told : Option (List ℕ)) (reader_before reader_after writer : Bool) (fault : RunFault)
+    → RunPromise stop script_limit (seen old before reader_before None false) (seen new after reader_after None false) (Err fault)
+    → ScriptPromise Dump stop (seen old before reader_before told writer) (seen new after reader_after told writer) (Err fault)
+fault_promised stop old new before after told reader_before reader_after writer (faults.Memory done) p = record {
+  headline = tt;
+  answers = tt;
+  whole = tt;
+  memory = let h = p.memory in (h.0, h.1, h.2, h.3, λ rest may. dump_front stop old new told (h.0 ++ rest) done p.legal (h.4 rest may));
+  read = tt;
+  too_long = tt;
+  write = tt;
+}
+fault_promised stop old new before after told reader_before reader_after writer (faults.Read done) p = record {
+  headline = λ reader whole gave. p.headline reader refl gave;
+  answers = tt;
+  whole = tt;
+  memory = tt;
+  read = let w = p.read.1 in (p.read.0, (w.0, w.1, w.2, λ rest may. dump_on stop old new told (w.0 ++ rest) done p.legal (w.3 rest may), w.4));
+  too_long = tt;
+  write = tt;
+}
+fault_promised stop old new before after told reader_before reader_after writer (faults.ReadLimit done) p = record {
+  headline = λ reader whole gave. p.headline reader refl gave;
+  answers = tt;
+  whole = tt;
+  memory = tt;
+  read = tt;
+  too_long = let h = p.too_long in (h.0, h.1, h.2, λ rest may. dump_on stop old new told (h.0 ++ rest) done p.legal (h.3 rest may), h.4);
+  write = tt;
+}
+fault_promised stop old new before after told reader_before reader_after writer (faults.Write done) p =
+    absurd (let wrong : false ≡ true = p.write.0 in cc)
 
-  pub dump_memory : IfErr r (IfMemory (λ done. (done ≡ report.statements) × (taken ≡ told)))
-      → IfErr r (IfMemory (λ done. OfFront done before after (λ script. HasBegunTo Dump (run_of stop (standing old told) script) done (standing new taken))))
-  dump_memory =
-      err_map (IfMemory (λ done. (done ≡ report.statements) × (taken ≡ told)))
-      (IfMemory (λ done. OfFront done before after (λ script. HasBegunTo Dump (run_of stop (standing old told) script) done (standing new taken))))
-      (memory_map (λ done. (done ≡ report.statements) × (taken ≡ told))
-      (λ done. OfFront done before after (λ script. HasBegunTo Dump (run_of stop (standing old told) script) done (standing new taken)))
-      (λ done h. of_front stop report before after _ _ done h.0 (λ script left. undumped stop old new told None legal script report left done taken h.0 h.1) ran)) r
-
-  pub dump_write : (broken : Type 0)
+-- after a run to its end, by what the writing of the dump comes to
+module _ (stop : Bool) (old new : State) (before after told taken : Option (List ℕ)) (reader_before reader_after writer_before writer_after : Bool)
+    (report : Report) (p : RunPromise stop script_limit (seen old before reader_before None false) (seen new after reader_after None false) (Ok report)) where
+  pub dump_promised : (r : Result Report RunFault)
+      → IfOk r (λ x. (x ≡ report) × Appends told taken (dump_text new.database))
+      → OnOk r (StaysWhole writer_before writer_after)
+      → IfErr r (IfMemory (λ done. (done ≡ report.statements) × (taken ≡ told)))
       → IfErr r (IfWrite (λ done. (done ≡ report.statements) × ((n : ℕ) × AppendsIfTold told taken (take n (dump_text new.database)))))
-      → IfErr r (IfWrite (λ done. broken))
-      → IfErr r (IfWrite (λ done. broken × OfFront done before after (λ script. HasBegunCut Dump (run_of stop (standing old told) script) done taken)))
-  dump_write broken = by_result r
-    where
-      by_fault : (fault : RunFault)
-          → IfWrite (λ done. (done ≡ report.statements) × ((n : ℕ) × AppendsIfTold told taken (take n (dump_text new.database)))) fault
-          → IfWrite (λ done. broken) fault
-          → IfWrite (λ done. broken × OfFront done before after (λ script. HasBegunCut Dump (run_of stop (standing old told) script) done taken)) fault
-      by_fault (faults.Memory done) h b = tt
-      by_fault (faults.Read done) h b = tt
-      by_fault (faults.ReadLimit done) h b = tt
-      by_fault (faults.Write done) h b = (b, of_front stop report before after _ _ done h.0 (λ script left. dump_cut stop old new told None legal script report left done taken h.1.0 h.0 h.1.1) ran)
-
-      by_result : (x : Result Report RunFault)
-          → IfErr x (IfWrite (λ done. (done ≡ report.statements) × ((n : ℕ) × AppendsIfTold told taken (take n (dump_text new.database)))))
-          → IfErr x (IfWrite (λ done. broken))
-          → IfErr x (IfWrite (λ done. broken × OfFront done before after (λ script. HasBegunCut Dump (run_of stop (standing old told) script) done taken)))
-      by_result (Ok y) h b = tt
-      by_result (Err fault) h b = by_fault fault h b
-
--- only memory and the sink can fail
-pub dump_headline : (r : Result Report RunFault) (P Q : Type 0) (broken : Bool) → IfErr r (IfWrite (λ done. IsTrue broken)) → IfErr r (IfRead (λ done. ⊥))
-    → IfErr r (IfReadLimit (λ done. ⊥)) → IfNotMemory r (P → IsFalse broken → Q → IsOk r)
-dump_headline (Ok x) P Q broken w a b = λ p f q. refl
-dump_headline (Err (faults.Memory done)) P Q broken w a b = tt
-dump_headline (Err (faults.Read done)) P Q broken w a b = absurd a
-dump_headline (Err (faults.ReadLimit done)) P Q broken w a b = absurd b
-dump_headline (Err (faults.Write done)) P Q broken w a b = λ p f q. absurd (true≢false (sym w ∙ f))
-
--- what can't come
-pub no_read : {T : Type 0} (P : ℕ → Type 0) (r : Result T RunFault) → IfErr r (IfRead (λ done. ⊥)) → IfErr r (IfRead P)
-no_read P = err_map (IfRead (λ done. ⊥)) (IfRead P) (read_map (λ done. ⊥) P (λ done h. absurd h))
-
-pub no_limit : {T : Type 0} (P : ℕ → Type 0) (r : Result T RunFault) → IfErr r (IfReadLimit (λ done. ⊥)) → IfErr r (IfReadLimit P)
-no_limit P = err_map (IfReadLimit (λ done. ⊥)) (IfReadLimit P) (limit_map (λ done. ⊥) P (λ done h. absurd h))
-
--- ---- what it comes to after a run that was not to the end
-
-pub fault_memory : (stop : Bool) (old new : State) (told before after : Option (List ℕ)) → IsLegalState new → (fault : RunFault)
-    → IfMemory (λ done. OfFront done before after (λ script. HasRun (run_of stop (standing old None) script) done (standing new None))) fault
-    → IfMemory (λ done. OfFront done before after (λ script. HasBegunTo Dump (run_of stop (standing old told) script) done (standing new told))) fault
-fault_memory stop old new told before after legal =
-    memory_map (λ done. OfFront done before after (λ script. HasRun (run_of stop (standing old None) script) done (standing new None)))
-    (λ done. OfFront done before after (λ script. HasBegunTo Dump (run_of stop (standing old told) script) done (standing new told)))
-    (λ done h. (h.0, h.1, h.2, h.3, λ rest may. dump_front stop old new told (h.0 ++ rest) done legal (h.4 rest may)))
-
-pub fault_read : (stop : Bool) (old new : State) (told before after : Option (List ℕ)) → IsLegalState new → (P : Type 0) (fault : RunFault)
-    → IfRead (λ done. P × OfBroken done before after (λ script. IsOngoing (run_of stop (standing old None) script) done (standing new None))) fault
-    → IfRead (λ done. P × OfBroken done before after (λ script. IsUnderWay Dump (run_of stop (standing old told) script) done told)) fault
-fault_read stop old new told before after legal P =
-    read_map (λ done. P × OfBroken done before after (λ script. IsOngoing (run_of stop (standing old None) script) done (standing new None)))
-    (λ done. P × OfBroken done before after (λ script. IsUnderWay Dump (run_of stop (standing old told) script) done told))
-    (λ done h. let w = h.1 in (h.0, (w.0, w.1, w.2, λ rest may. dump_on stop old new told (w.0 ++ rest) done legal (w.3 rest may), w.4)))
-
-pub fault_limit : (stop : Bool) (old new : State) (told before after : Option (List ℕ)) → IsLegalState new → (fault : RunFault)
-    → IfReadLimit (λ done. OfTooMuch script_limit done before after (λ script. IsOngoing (run_of stop (standing old None) script) done (standing new None))) fault
-    → IfReadLimit (λ done. OfTooMuch script_limit done before after (λ script. IsUnderWay Dump (run_of stop (standing old told) script) done told)) fault
-fault_limit stop old new told before after legal =
-    limit_map (λ done. OfTooMuch script_limit done before after (λ script. IsOngoing (run_of stop (standing old None) script) done (standing new None)))
-    (λ done. OfTooMuch script_limit done before after (λ script. IsUnderWay Dump (run_of stop (standing old told) script) done told))
-    (λ done h. (h.0, h.1, h.2, λ rest may. dump_on stop old new told (h.0 ++ rest) done legal (h.3 rest may), h.4))
-
--- ---- where the engine is not seen any more
-
-pub begun_alone : (mode : Mode) (stop : Bool) (old new : State) (told taken before after : Option (List ℕ)) (fault : RunFault)
-    → IfMemory (λ done. OfFront done before after (λ script. HasBegunTo mode (run_of stop (standing old told) script) done (standing new taken))) fault
-    → IfMemory (λ done. OfFront done before after (λ script. HasBegun mode (run_of stop (standing old told) script) done taken)) fault
-begun_alone mode stop old new told taken before after =
-    memory_map (λ done. OfFront done before after (λ script. HasBegunTo mode (run_of stop (standing old told) script) done (standing new taken)))
-    (λ done. OfFront done before after (λ script. HasBegun mode (run_of stop (standing old told) script) done taken))
-    (λ done h. (h.0, h.1, h.2, h.3, λ rest may. (h.4 rest may).has_begun))
+      → IfErr r (IfWrite (λ done. IsTrue writer_after)) → IfErr r (IfRead (λ done. ⊥)) → IfErr r (IfReadLimit (λ done. ⊥))
+      → ScriptPromise Dump stop (seen old before reader_before told writer_before) (seen new after reader_after taken writer_after) r
+  dump_promised (Ok x) w whole m cut broken r l = record {
+    headline = λ reader writer gave. refl;
+    answers = 
+          subst (λ (y : Report). OfSession stop (status_of y.refused) before after (λ script. HasAnswered Dump (run_of stop (standing old told) script) (status_of y.refused) taken))
+          (sym w.0) (of_session stop report before after _ _ (λ script left. dumped stop old new told None p.legal script report left taken w.1) p.answers);
+    whole = (p.whole.0, whole);
+    memory = tt;
+    read = tt;
+    too_long = tt;
+    write = tt;
+  }
+  dump_promised (Err (faults.Memory done)) w whole m cut broken r l = record {
+    headline = tt;
+    answers = tt;
+    whole = tt;
+    memory = of_front stop report before after _ _ done m.0 (λ script left. undumped stop old new told None p.legal script report left done taken m.0 m.1) p.answers;
+    read = tt;
+    too_long = tt;
+    write = tt;
+  }
+  dump_promised (Err (faults.Read done)) w whole m cut broken r l = absurd r
+  dump_promised (Err (faults.ReadLimit done)) w whole m cut broken r l = absurd l
+  dump_promised (Err (faults.Write done)) w whole m cut broken r l = record {
+    headline = λ reader writer gave. absurd (let wrong : false ≡ true = sym writer ∙ broken in cc);
+    answers = tt;
+    whole = tt;
+    memory = tt;
+    read = tt;
+    too_long = tt;
+    write = (broken, of_front stop report before after _ _ done cut.0 (λ script left. dump_cut stop old new told None p.legal script report left done taken cut.1.0 cut.0 cut.1.1) p.answers);
+  }

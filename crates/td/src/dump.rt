@@ -1,15 +1,12 @@
 //! The dump of the database that a script leaves.
-ghost use Rattle.std.specs.Prelude.{◌≡◌, ℕ, IfErr, IfOk, IsFalse, IsOk, IsTrue, OnOk, None};
-ghost use Rattle.std.specs.Prelude.{false, take};
+ghost use Rattle.std.specs.Prelude.{◌≡◌, ℕ, IfErr, IfOk, IsTrue, OnOk, take};
 ghost use Rattle.std.specs.Io.KnownBytes.{Appends};
-ghost use Rattle.td.specs.model.Sessions.{HasAnswered, HasBegunCut, HasBegunTo, IsUnderWay};
-ghost use Rattle.td.specs.model.Sessions.{OfSession, status_of};
+ghost use Rattle.td.specs.model.Sessions.{ScriptPromise};
 ghost use Rattle.td.specs.declared.line.Mode.TheVariants.{Dump};
 ghost use Rattle.td_catalog.specs.model.Dumps.{dump_text};
-ghost use Rattle.td_engine.specs.model.Faults.{IfMemory, IfNotMemory, IfRead, IfReadLimit, IfWrite};
-ghost use Rattle.td_engine.specs.model.Scripts.{OfBroken, OfFront, OfTooMuch, script_limit};
-ghost use Rattle.td_engine.specs.model.Standing.{run_of, standing};
-ghost use Rattle.td_engine.specs.model.Told.{AppendsIfTold, GaveAtMost, StaysWhole};
+ghost use Rattle.td_engine.specs.model.Faults.{IfMemory, IfRead, IfReadLimit, IfWrite};
+ghost use Rattle.td_engine.specs.model.Promises.{seen};
+ghost use Rattle.td_engine.specs.model.Told.{AppendsIfTold, StaysWhole};
 
 use std::alloc::Global;
 use td_body::body::Body;
@@ -71,32 +68,10 @@ pub(crate) fn dump<B: Body, R: Source, W: Sink>(
     writer: &mut W,
     stop: bool,
 ) -> Result<Report, RunFault>
-    ensures headline { IfNotMemory result (
-        IsFalse (R.is_broken reader.new) → IsFalse (W.is_broken writer.new)
-        → GaveAtMost script_limit (R.left reader.old) (R.left reader.new) → IsOk result) }
-    ensures answers { IfOk result (λ report. OfSession stop (status_of report.refused)
-        (R.left reader.old) (R.left reader.new) (λ script. HasAnswered Dump
-        (run_of stop (standing engine.old (W.taken writer.old)) script)
-        (status_of report.refused) (W.taken writer.new))) }
-    ensures whole { OnOk result (StaysWhole (R.is_broken reader.old) (R.is_broken reader.new)
-        × StaysWhole (W.is_broken writer.old) (W.is_broken writer.new)) }
-    ensures memory { IfErr result (IfMemory (λ done.
-        OfFront done (R.left reader.old) (R.left reader.new) (λ script. HasBegunTo Dump
-        (run_of stop (standing engine.old (W.taken writer.old)) script) done
-        (standing engine.new (W.taken writer.new))))) }
-    ensures read { IfErr result (IfRead (λ done. IsTrue (R.is_broken reader.new)
-        × OfBroken done (R.left reader.old) (R.left reader.new) (λ script. IsUnderWay Dump
-        (run_of stop (standing engine.old (W.taken writer.old)) script) done
-        (W.taken writer.new)))) }
-    ensures too_long { IfErr result (IfReadLimit (λ done.
-        OfTooMuch script_limit done (R.left reader.old) (R.left reader.new)
-        (λ script. IsUnderWay Dump
-        (run_of stop (standing engine.old (W.taken writer.old)) script) done
-        (W.taken writer.new)))) }
-    ensures write { IfErr result (IfWrite (λ done. IsTrue (W.is_broken writer.new)
-        × OfFront done (R.left reader.old) (R.left reader.new) (λ script. HasBegunCut Dump
-        (run_of stop (standing engine.old (W.taken writer.old)) script) done
-        (W.taken writer.new)))) }
+    ensures { ScriptPromise Dump stop (seen engine.old (R.left reader.old)
+        (R.is_broken reader.old) (W.taken writer.old) (W.is_broken writer.old))
+        (seen engine.new (R.left reader.new) (R.is_broken reader.new) (W.taken writer.new)
+        (W.is_broken writer.new)) result }
 {
     let mut nowhere = Nowhere;
     match run(alloc, engine, reader, &mut nowhere, stop) {

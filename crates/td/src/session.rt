@@ -1,14 +1,8 @@
 //! Sessions: a script on an engine of its own.
-ghost use Rattle.std.specs.Prelude.{◌≡◌, None, IfErr, IfNone, IfOk, IfSome, IsFalse, IsOk, IsTrue};
-ghost use Rattle.std.specs.Prelude.{OnOk};
-ghost use Rattle.td.specs.model.Sessions.{HasAnswered, HasBegun, HasBegunCut, HasBegunTo, IsStatus};
-ghost use Rattle.td.specs.model.Sessions.{IsUnderWay, OfSession, UnlessMemory, status_of};
-ghost use Rattle.td_engine.specs.model.Faults.{IfMemory, IfNotMemory, IfRead, IfReadLimit, IfWrite};
+ghost use Rattle.std.specs.Prelude.{◌≡◌};
+ghost use Rattle.td.specs.model.Sessions.{ScriptPromise, SessionPromise, status_of};
 ghost use Rattle.td_engine.specs.model.Machine.{empty_state};
-ghost use Rattle.td_engine.specs.model.Legality.{IsLegalThroughout};
-ghost use Rattle.td_engine.specs.model.Scripts.{OfBroken, OfFront, OfTooMuch, script_limit};
-ghost use Rattle.td_engine.specs.model.Standing.{run_of, standing};
-ghost use Rattle.td_engine.specs.model.Told.{GaveAtMost, StaysWhole};
+ghost use Rattle.td_engine.specs.model.Promises.{seen};
 
 use crate::dump::dump;
 use crate::line::Mode;
@@ -46,32 +40,10 @@ fn run_script<B: Body, R: Source, W: Sink>(
     reader: &mut R,
     writer: &mut W,
 ) -> Result<Report, RunFault>
-    ensures headline { IfNotMemory result (
-        IsFalse (R.is_broken reader.new) → IsFalse (W.is_broken writer.new)
-        → GaveAtMost script_limit (R.left reader.old) (R.left reader.new) → IsOk result) }
-    ensures answers { IfOk result (λ report. OfSession stop (status_of report.refused)
-        (R.left reader.old) (R.left reader.new) (λ script. HasAnswered mode
-        (run_of stop (standing engine.old (W.taken writer.old)) script)
-        (status_of report.refused) (W.taken writer.new))) }
-    ensures whole { OnOk result (StaysWhole (R.is_broken reader.old) (R.is_broken reader.new)
-        × StaysWhole (W.is_broken writer.old) (W.is_broken writer.new)) }
-    ensures memory { IfErr result (IfMemory (λ done.
-        OfFront done (R.left reader.old) (R.left reader.new) (λ script. HasBegunTo mode
-        (run_of stop (standing engine.old (W.taken writer.old)) script) done
-        (standing engine.new (W.taken writer.new))))) }
-    ensures read { IfErr result (IfRead (λ done. IsTrue (R.is_broken reader.new)
-        × OfBroken done (R.left reader.old) (R.left reader.new) (λ script. IsUnderWay mode
-        (run_of stop (standing engine.old (W.taken writer.old)) script) done
-        (W.taken writer.new)))) }
-    ensures too_long { IfErr result (IfReadLimit (λ done.
-        OfTooMuch script_limit done (R.left reader.old) (R.left reader.new)
-        (λ script. IsUnderWay mode
-        (run_of stop (standing engine.old (W.taken writer.old)) script) done
-        (W.taken writer.new)))) }
-    ensures write { IfErr result (IfWrite (λ done. IsTrue (W.is_broken writer.new)
-        × OfFront done (R.left reader.old) (R.left reader.new) (λ script. HasBegunCut mode
-        (run_of stop (standing engine.old (W.taken writer.old)) script) done
-        (W.taken writer.new)))) }
+    ensures { ScriptPromise mode stop (seen engine.old (R.left reader.old)
+        (R.is_broken reader.old) (W.taken writer.old) (W.is_broken writer.old))
+        (seen engine.new (R.left reader.new) (R.is_broken reader.new) (W.taken writer.new)
+        (W.is_broken writer.new)) result }
 {
     match mode {
         Mode::Run => run(alloc, engine, reader, writer, stop),
@@ -87,34 +59,10 @@ pub(crate) fn session_on<B: Body, R: Source, W: Sink>(
     reader: &mut R,
     writer: &mut W,
 ) -> Outcome
-    ensures headline { UnlessMemory result.fault (
-        IsFalse (R.is_broken reader.new) → IsFalse (W.is_broken writer.new)
-        → GaveAtMost script_limit (R.left reader.old) (R.left reader.new) → result.fault ≡ None) }
-    ensures status { IsStatus result.status result.fault }
-    ensures answers { IfNone result.fault (OfSession stop result.status
-        (R.left reader.old) (R.left reader.new) (λ script. HasAnswered mode
-        (run_of stop (standing empty_state (W.taken writer.old)) script)
-        result.status (W.taken writer.new))) }
-    ensures whole { IfNone result.fault (StaysWhole (R.is_broken reader.old)
-        (R.is_broken reader.new) × StaysWhole (W.is_broken writer.old) (W.is_broken writer.new)) }
-    ensures memory { IfSome result.fault (IfMemory (λ done.
-        OfFront done (R.left reader.old) (R.left reader.new) (λ script. HasBegun mode
-        (run_of stop (standing empty_state (W.taken writer.old)) script) done
-        (W.taken writer.new)))) }
-    ensures read { IfSome result.fault (IfRead (λ done. IsTrue (R.is_broken reader.new)
-        × OfBroken done (R.left reader.old) (R.left reader.new) (λ script. IsUnderWay mode
-        (run_of stop (standing empty_state (W.taken writer.old)) script) done
-        (W.taken writer.new)))) }
-    ensures too_long { IfSome result.fault (IfReadLimit (λ done.
-        OfTooMuch script_limit done (R.left reader.old) (R.left reader.new)
-        (λ script. IsUnderWay mode
-        (run_of stop (standing empty_state (W.taken writer.old)) script) done
-        (W.taken writer.new)))) }
-    ensures write { IfSome result.fault (IfWrite (λ done. IsTrue (W.is_broken writer.new)
-        × OfFront done (R.left reader.old) (R.left reader.new) (λ script. HasBegunCut mode
-        (run_of stop (standing empty_state (W.taken writer.old)) script) done
-        (W.taken writer.new)))) }
-    ensures between { IsLegalThroughout stop empty_state }
+    ensures { SessionPromise mode stop (seen empty_state (R.left reader.old)
+        (R.is_broken reader.old) (W.taken writer.old) (W.is_broken writer.old))
+        (λ s. seen s (R.left reader.new) (R.is_broken reader.new) (W.taken writer.new)
+        (W.is_broken writer.new)) result.status result.fault }
 {
     let mut engine: Engine<B> = Engine::new(alloc);
     engine.reveal();
@@ -143,34 +91,10 @@ pub fn session<R: Source, W: Sink>(
     reader: &mut R,
     writer: &mut W,
 ) -> Outcome
-    ensures headline { UnlessMemory result.fault (
-        IsFalse (R.is_broken reader.new) → IsFalse (W.is_broken writer.new)
-        → GaveAtMost script_limit (R.left reader.old) (R.left reader.new) → result.fault ≡ None) }
-    ensures status { IsStatus result.status result.fault }
-    ensures answers { IfNone result.fault (OfSession stop result.status
-        (R.left reader.old) (R.left reader.new) (λ script. HasAnswered mode
-        (run_of stop (standing empty_state (W.taken writer.old)) script)
-        result.status (W.taken writer.new))) }
-    ensures whole { IfNone result.fault (StaysWhole (R.is_broken reader.old)
-        (R.is_broken reader.new) × StaysWhole (W.is_broken writer.old) (W.is_broken writer.new)) }
-    ensures memory { IfSome result.fault (IfMemory (λ done.
-        OfFront done (R.left reader.old) (R.left reader.new) (λ script. HasBegun mode
-        (run_of stop (standing empty_state (W.taken writer.old)) script) done
-        (W.taken writer.new)))) }
-    ensures read { IfSome result.fault (IfRead (λ done. IsTrue (R.is_broken reader.new)
-        × OfBroken done (R.left reader.old) (R.left reader.new) (λ script. IsUnderWay mode
-        (run_of stop (standing empty_state (W.taken writer.old)) script) done
-        (W.taken writer.new)))) }
-    ensures too_long { IfSome result.fault (IfReadLimit (λ done.
-        OfTooMuch script_limit done (R.left reader.old) (R.left reader.new)
-        (λ script. IsUnderWay mode
-        (run_of stop (standing empty_state (W.taken writer.old)) script) done
-        (W.taken writer.new)))) }
-    ensures write { IfSome result.fault (IfWrite (λ done. IsTrue (W.is_broken writer.new)
-        × OfFront done (R.left reader.old) (R.left reader.new) (λ script. HasBegunCut mode
-        (run_of stop (standing empty_state (W.taken writer.old)) script) done
-        (W.taken writer.new)))) }
-    ensures between { IsLegalThroughout stop empty_state }
+    ensures { SessionPromise mode stop (seen empty_state (R.left reader.old)
+        (R.is_broken reader.old) (W.taken writer.old) (W.is_broken writer.old))
+        (λ s. seen s (R.left reader.new) (R.is_broken reader.new) (W.taken writer.new)
+        (W.is_broken writer.new)) result.status result.fault }
 {
     session_on::<HashBody, R, W>(alloc, mode, stop, reader, writer)
 }

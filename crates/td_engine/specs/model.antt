@@ -3,6 +3,7 @@ pub mod Checks
 pub mod Faults
 pub mod Legality
 pub mod Machine
+pub mod Promises
 pub mod Refusals
 pub mod Scripts
 pub mod Standing

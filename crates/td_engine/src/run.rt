@@ -1,16 +1,15 @@
 //! Whole runs: a script is read, each statement is run, each answer is written.
 ghost use Rattle.std.specs.Prelude.{◌≡◌, ℕ, ◌+◌, ◌<◌, ◌≤◌, ◌^◌, ◌&&◌, Bool, nat_lt, if◌then◌else◌};
 ghost use Rattle.std.specs.Prelude.{List};
-ghost use Rattle.std.specs.Prelude.{length, None, IfOk, IfErr, IfNone, IfSome, IsOk, OnOk, IsTrue};
+ghost use Rattle.std.specs.Prelude.{length, None, IfOk, IfErr, IfNone, IfSome, OnOk, IsTrue};
 ghost use Rattle.std.specs.Prelude.{IsFalse};
 ghost use Rattle.std.specs.Io.KnownBytes.{Consumes};
-ghost use Rattle.td_engine.specs.model.Faults.{IfMemory, IfNotMemory, IfRead, IfReadLimit, IfWrite};
-ghost use Rattle.td_engine.specs.model.Scripts.{OfBroken, OfFront, OfScript, OfTooMuch};
+ghost use Rattle.td_engine.specs.model.Faults.{IfMemory, IfRead, IfReadLimit, IfWrite};
+ghost use Rattle.td_engine.specs.model.Legality.{IsLegalState};
+ghost use Rattle.td_engine.specs.model.Promises.{RunPromise, seen};
 ghost use Rattle.td_engine.specs.model.Scripts.{script_limit};
-ghost use Rattle.td_engine.specs.model.Legality.{IsLegalState, IsLegalThroughout};
-ghost use Rattle.td_engine.specs.model.Standing.{HasRun, HasRunCut, IsLeft, IsOngoing, run_of};
 ghost use Rattle.td_engine.specs.model.Standing.{standing};
-ghost use Rattle.td_engine.specs.model.Told.{GaveAtMost, KeepsIfTold, StaysWhole};
+ghost use Rattle.td_engine.specs.model.Told.{KeepsIfTold, StaysWhole};
 ghost use Rattle.td_engine.specs.code.Turns.{Advanced, EndedAt, EndedIn, HasTurnedCut, IsFed};
 ghost use Rattle.td_engine.specs.code.Turns.{IsReading};
 ghost use Rattle.td_engine.specs.code.Turns.{Turned, place_at};
@@ -257,34 +256,10 @@ pub fn run_within<B: Body, R: Source, W: Sink>(
     limit: u64,
 ) -> Result<Report, RunFault>
     requires limit { limit ≤ script_limit }
-    ensures headline { IfNotMemory result (
-        IsFalse (R.is_broken reader.new) → IsFalse (W.is_broken writer.new)
-        → GaveAtMost limit (R.left reader.old) (R.left reader.new) → IsOk result) }
-    ensures answers { IfOk result (λ report.
-        OfScript limit report.statements (stop && nat_lt 0 report.refused)
-        (R.left reader.old) (R.left reader.new) (λ script. IsLeft
-        (run_of stop (standing engine.old (W.taken writer.old)) script)
-        (standing engine.new (W.taken writer.new)) report)) }
-    ensures whole { OnOk result (StaysWhole (R.is_broken reader.old) (R.is_broken reader.new)
-        × StaysWhole (W.is_broken writer.old) (W.is_broken writer.new)) }
-    ensures memory { IfErr result (IfMemory (λ done.
-        OfFront done (R.left reader.old) (R.left reader.new) (λ script. HasRun
-        (run_of stop (standing engine.old (W.taken writer.old)) script) done
-        (standing engine.new (W.taken writer.new))))) }
-    ensures read { IfErr result (IfRead (λ done. IsTrue (R.is_broken reader.new)
-        × OfBroken done (R.left reader.old) (R.left reader.new) (λ script. IsOngoing
-        (run_of stop (standing engine.old (W.taken writer.old)) script) done
-        (standing engine.new (W.taken writer.new))))) }
-    ensures too_long { IfErr result (IfReadLimit (λ done.
-        OfTooMuch limit done (R.left reader.old) (R.left reader.new) (λ script. IsOngoing
-        (run_of stop (standing engine.old (W.taken writer.old)) script) done
-        (standing engine.new (W.taken writer.new))))) }
-    ensures write { IfErr result (IfWrite (λ done. IsTrue (W.is_broken writer.new)
-        × OfFront done (R.left reader.old) (R.left reader.new) (λ script. HasRunCut
-        (run_of stop (standing engine.old (W.taken writer.old)) script) done
-        (standing engine.new (W.taken writer.new))))) }
-    ensures legal { IsLegalState engine.new }
-    ensures between { IsLegalThroughout stop engine.old }
+    ensures { RunPromise stop limit (seen engine.old (R.left reader.old)
+        (R.is_broken reader.old) (W.taken writer.old) (W.is_broken writer.old))
+        (seen engine.new (R.left reader.new) (R.is_broken reader.new) (W.taken writer.new)
+        (W.is_broken writer.new)) result }
 {
     engine.reveal();
     runs_keep_legality();
@@ -316,34 +291,10 @@ pub fn run<B: Body, R: Source, W: Sink>(
     writer: &mut W,
     stop: bool,
 ) -> Result<Report, RunFault>
-    ensures headline { IfNotMemory result (
-        IsFalse (R.is_broken reader.new) → IsFalse (W.is_broken writer.new)
-        → GaveAtMost script_limit (R.left reader.old) (R.left reader.new) → IsOk result) }
-    ensures answers { IfOk result (λ report.
-        OfScript script_limit report.statements (stop && nat_lt 0 report.refused)
-        (R.left reader.old) (R.left reader.new) (λ script. IsLeft
-        (run_of stop (standing engine.old (W.taken writer.old)) script)
-        (standing engine.new (W.taken writer.new)) report)) }
-    ensures whole { OnOk result (StaysWhole (R.is_broken reader.old) (R.is_broken reader.new)
-        × StaysWhole (W.is_broken writer.old) (W.is_broken writer.new)) }
-    ensures memory { IfErr result (IfMemory (λ done.
-        OfFront done (R.left reader.old) (R.left reader.new) (λ script. HasRun
-        (run_of stop (standing engine.old (W.taken writer.old)) script) done
-        (standing engine.new (W.taken writer.new))))) }
-    ensures read { IfErr result (IfRead (λ done. IsTrue (R.is_broken reader.new)
-        × OfBroken done (R.left reader.old) (R.left reader.new) (λ script. IsOngoing
-        (run_of stop (standing engine.old (W.taken writer.old)) script) done
-        (standing engine.new (W.taken writer.new))))) }
-    ensures too_long { IfErr result (IfReadLimit (λ done.
-        OfTooMuch script_limit done (R.left reader.old) (R.left reader.new) (λ script. IsOngoing
-        (run_of stop (standing engine.old (W.taken writer.old)) script) done
-        (standing engine.new (W.taken writer.new))))) }
-    ensures write { IfErr result (IfWrite (λ done. IsTrue (W.is_broken writer.new)
-        × OfFront done (R.left reader.old) (R.left reader.new) (λ script. HasRunCut
-        (run_of stop (standing engine.old (W.taken writer.old)) script) done
-        (standing engine.new (W.taken writer.new))))) }
-    ensures legal { IsLegalState engine.new }
-    ensures between { IsLegalThroughout stop engine.old }
+    ensures { RunPromise stop script_limit (seen engine.old (R.left reader.old)
+        (R.is_broken reader.old) (W.taken writer.old) (W.is_broken writer.old))
+        (seen engine.new (R.left reader.new) (R.is_broken reader.new) (W.taken writer.new)
+        (W.is_broken writer.new)) result }
 {
     run_within(alloc, engine, reader, writer, stop, SCRIPT_LIMIT)
 }

@@ -1,22 +1,19 @@
 -- What a session writes and answers (this project's own).
-use Rattle.std.specs.Prelude.{◌≡◌, ℕ, ◌≤◌, ◌&&◌, Bool, List, [], Option, None, Some, false, nat_lt, take, if◌then◌else◌, ⊤}
+use Rattle.std.specs.Prelude.{◌≡◌, ℕ, ◌&&◌, Bool, List, [], Option, None, Some, Result, Ok, Err, IfErr, IfOk, IsFalse, IsOk, IsTrue, OnOk, false, nat_lt, take, if◌then◌else◌}
 use Rattle.std.specs.Io.KnownBytes.{Appends}
 use Rattle.td.specs.declared.line.Mode.{Mode}
 use Rattle.td.specs.declared.line.Mode.TheVariants.{Run, Dump}
 use Rattle.td_catalog.specs.model.Dumps.{dump_text}
-use Rattle.td_engine.specs.model.Machine.{Progress, State, has_stopped}
-use Rattle.td_engine.specs.model.Legality.{IsLegalState}
-use Rattle.td_engine.specs.model.Scripts.{OfScript, script_limit}
-use Rattle.td_engine.specs.model.Standing.{HasRunCut, RunsTo, Standing, standing}
-use Rattle.td_engine.specs.model.Standing as runs
-use Rattle.td_engine.specs.model.Told.{AppendsIfTold}
+use Rattle.td_engine.specs.declared.run.Report.{Report}
 use Rattle.td_engine.specs.declared.run.RunFault.{RunFault}
-use Rattle.td_engine.specs.declared.run.RunFault.TheVariants.{Memory}
-
--- 3 exactly where there is a fault
-abbrev pub IsStatus : ℕ → Option RunFault → Type 0
-IsStatus status None = status ≤ 1
-IsStatus status (Some fault) = status ≡ 3
+use Rattle.td_engine.specs.model.Faults.{IfMemory, IfNotMemory, IfRead, IfReadLimit, IfWrite}
+use Rattle.td_engine.specs.model.Legality.{IsLegalState, IsLegalThroughout}
+use Rattle.td_engine.specs.model.Machine.{Progress, State, has_stopped}
+use Rattle.td_engine.specs.model.Promises.{Seen}
+use Rattle.td_engine.specs.model.Scripts.{OfBroken, OfFront, OfScript, OfTooMuch, script_limit}
+use Rattle.td_engine.specs.model.Standing.{HasRunCut, RunsTo, Standing, run_of, standing}
+use Rattle.td_engine.specs.model.Standing as runs
+use Rattle.td_engine.specs.model.Told.{AppendsIfTold, GaveAtMost, StaysWhole}
 
 -- 0 where nothing was refused, else 1
 abbrev pub status_of : ℕ → ℕ
@@ -77,7 +74,70 @@ abbrev pub HasBegunCut : Mode → runs.Run → ℕ → Option (List ℕ) → Typ
 HasBegunCut Run run done taken = (s : State) × HasRunCut run done (standing s taken) × IsLegalState s
 HasBegunCut Dump run done taken = HasDumpedCut run done taken
 
--- unless memory was refused
-abbrev pub UnlessMemory : Option RunFault → Type 0 → Type 0
-UnlessMemory (Some (Memory done)) P = ⊤
-UnlessMemory _ P = P
+-- the script was run to its end, and what is written of it was taken
+abbrev pub IsAnswered : Mode → Bool → Seen → Seen → Report → Type 0
+IsAnswered mode stop old new report =
+    OfSession stop (status_of report.refused) old.left new.left
+    (λ script. HasAnswered mode (run_of stop old.stands script) (status_of report.refused)
+    new.stands.taken)
+
+-- memory was refused: the first `done` statements were run
+abbrev pub IsBegunTo : Mode → Bool → Seen → Seen → ℕ → Type 0
+IsBegunTo mode stop old new done =
+    OfFront done old.left new.left
+    (λ script. HasBegunTo mode (run_of stop old.stands script) done new.stands)
+
+-- the reader broke: of what it gave, each statement that a `;` ends was run
+abbrev pub IsBrokenOff : Mode → Bool → Seen → Seen → ℕ → Type 0
+IsBrokenOff mode stop old new done =
+    IsTrue new.is_reader_broken
+    × OfBroken done old.left new.left
+    (λ script. IsUnderWay mode (run_of stop old.stands script) done new.stands.taken)
+
+-- the reader gave more than a script may have: the first `done` statements were run
+abbrev pub IsTooLong : Mode → Bool → Seen → Seen → ℕ → Type 0
+IsTooLong mode stop old new done =
+    OfTooMuch script_limit done old.left new.left
+    (λ script. IsUnderWay mode (run_of stop old.stands script) done new.stands.taken)
+
+-- the writer broke: what it took is cut
+abbrev pub IsCut : Mode → Bool → Seen → Seen → ℕ → Type 0
+IsCut mode stop old new done =
+    IsTrue new.is_writer_broken
+    × OfFront done old.left new.left
+    (λ script. HasBegunCut mode (run_of stop old.stands script) done new.stands.taken)
+
+-- what is promised of a run that answers this result, of which is written what the mode wants: field
+-- by field as of a run alone
+pub record ScriptPromise (mode : Mode) (stop : Bool) (old new : Seen)
+    (result : Result Report RunFault) : Type 0 where
+  pub headline : IfNotMemory result
+      (IsFalse new.is_reader_broken → IsFalse new.is_writer_broken
+      → GaveAtMost script_limit old.left new.left → IsOk result)
+  pub answers : IfOk result (IsAnswered mode stop old new)
+  pub whole : OnOk result (StaysWhole old.is_reader_broken new.is_reader_broken
+      × StaysWhole old.is_writer_broken new.is_writer_broken)
+  pub memory : IfErr result (IfMemory (IsBegunTo mode stop old new))
+  pub read : IfErr result (IfRead (IsBrokenOff mode stop old new))
+  pub too_long : IfErr result (IfReadLimit (IsTooLong mode stop old new))
+  pub write : IfErr result (IfWrite (IsCut mode stop old new))
+
+-- the status that the program ends with, and why the script was not run to its end
+abbrev pub status_in : Result Report RunFault → ℕ
+status_in (Ok report) = status_of report.refused
+status_in (Err fault) = 3
+
+abbrev pub fault_in : Result Report RunFault → Option RunFault
+fault_in (Ok report) = None
+fault_in (Err fault) = Some fault
+
+-- what is promised of a session that comes to this status and fault: its engine came to some state
+-- by a run of which the above is promised
+pub record SessionPromise (mode : Mode) (stop : Bool) (old : Seen) (after : State → Seen)
+    (status : ℕ) (fault : Option RunFault) : Type 0 where
+  pub state : State
+  pub result : Result Report RunFault
+  pub script : ScriptPromise mode stop old (after state) result
+  pub status_is : status ≡ status_in result
+  pub fault_is : fault ≡ fault_in result
+  pub between : IsLegalThroughout stop old.stands.state

@@ -1,5 +1,5 @@
 -- What a run leaves at each of its endings.
-use Rattle.std.proofs.Common.{◌≡◌, ℕ, ◌+◌, ◌-◌, ◌<◌, ◌≤◌, ◌&&◌, Bool, true, false, nat_lt, List, [], ◌∷◌, ◌++◌, length, take, drop, Option, Some, None, refl, sym, ap, ◌∙◌, subst, arith, append_assoc, append-nil, length-append, ◌⊎◌, inl, inr, zero, suc, Err}
+use Rattle.std.proofs.Common.{◌≡◌, ℕ, ◌+◌, ◌-◌, ◌<◌, ◌≤◌, ◌&&◌, Bool, true, false, nat_lt, List, [], ◌∷◌, ◌++◌, length, take, drop, Option, Some, None, refl, sym, ap, ◌∙◌, subst, arith, append_assoc, append-nil, length-append, ◌⊎◌, inl, inr, zero, suc, Ok, Err}
 use Rattle.std.specs.Prelude.{IsFalse, IsTrue}
 use Rattle.std.proofs.KnownBytes.{Consumes-nil, Consumes-trans}
 use Rattle.std.proofs.Math.Seq.{take-append_seam, take-append-add}
@@ -8,12 +8,15 @@ use Rattle.td_engine.proofs.code_lemmas.Advances.{ended_more, first_ended, none_
 use Rattle.td_engine.proofs.law_lemmas.Runs.{runs_append, runs_stopped}
 use Rattle.td_engine.proofs.code_lemmas.ToldLaws.{told_after}
 use Rattle.td_engine.proofs.code_lemmas.Turning.{goes_on, runs_more}
-use Rattle.td_engine.specs.model.Faults.{IfNotMemory, IfRead, IfReadLimit, IfWrite}
+use Rattle.td_engine.specs.model.Faults.{IfMemory, IfRead, IfReadLimit, IfWrite}
+use Rattle.td_engine.specs.model.Legality.{IsLegalState, IsLegalThroughout}
 use Rattle.td_engine.specs.model.Machine.{Progress, Runs, State, Step, and_then, progress_at_first, has_stopped, nothing}
+use Rattle.td_engine.specs.model.Promises.{IsRun, RunPromise, Seen}
 use Rattle.td_engine.specs.model.Scripts.{AreEnded, Continued, AreLeft, OfBroken, OfFront, OfScript, OfTooMuch}
 use Rattle.td_engine.specs.model.Standing.{HasRun, HasRunCut, IsLeft, IsOngoing, Run, RunsTo, Standing, Stands, run_of}
-use Rattle.td_engine.specs.model.Told.{AppendsIfTold, ConsumesIfTold, GaveAtMost, KeepsIfTold}
+use Rattle.td_engine.specs.model.Told.{AppendsIfTold, ConsumesIfTold, GaveAtMost, KeepsIfTold, StaysWhole}
 use Rattle.td_engine.specs.code.Turns.{EndedAt, EndedIn, HasTurnedCut, IsFed, RunPlace, Reached, Advanced, place_at}
+use Rattle.td_engine.specs.declared.run.Report.{Report}
 use Rattle.td_engine.specs.declared.run.RunFault.{RunFault}
 use Rattle.td_engine.specs.declared.run.RunFault.TheVariants as faults
 use Rattle.td_scan.proofs.TakenLaws.{first_and_after, first_and_later, no_statement}
@@ -335,23 +338,98 @@ too_many limit None to front c much gave = gave
 too_many limit (Some xs) None front c much gave = gave
 too_many limit (Some xs) (Some ys) front c much gave = omega (arith, gave, much, ap length c, length-append front ys)
 
--- a piece fails only for memory, where the source is whole and gave no more than the limit
-pub piece_headline : (T : Type 0) (limit room : ℕ) (stop : Bool) (before : Standing) (from mid to : Option (List ℕ)) (place : RunPlace)
-    → Streamed limit room stop before from mid place → (done : ℕ) (reader writer : Bool) (Q : Type 0) (fault : RunFault)
-    → IfRead (λ n. (n ≡ done) × IsTrue reader × KeepsIfTold mid to) fault
-    → IfReadLimit (λ n. (n ≡ done) × ((piece : List ℕ) × Consumes mid to piece × (room < length piece))) fault
-    → IfWrite (λ n. ⊥) fault
-    → IfNotMemory {T = T} (Err fault) (IsFalse reader → IsFalse writer → GaveAtMost limit from to → Q)
-piece_headline T limit room stop before from mid to place s done reader writer Q (faults.Memory n) r l w = tt
-piece_headline T limit room stop before from mid to place s done reader writer Q (faults.Read n) r l w =
-    λ whole other gave. absurd (let wrong : false ≡ true = sym whole ∙ r.1 in cc)
-piece_headline T limit room stop before from mid to place s done reader writer Q (faults.ReadLimit n) r l w =
-    λ whole other gave. absurd (too_many limit from to (s.given ++ l.1.0) (Consumes-trans from mid to s.given l.1.0 s.moved l.1.1)
-    (let much : limit < length (s.given ++ l.1.0) = omega (arith, length-append s.given l.1.0, s.size, l.1.2) in much) gave)
-piece_headline T limit room stop before from mid to place s done reader writer Q (faults.Write n) r l w = absurd w
+-- ---- what is promised, ending by ending
 
-pub write_both : (P Q R : ℕ → Type 0) → ((done : ℕ) → P done → Q done → R done) → (fault : RunFault) → IfWrite P fault → IfWrite Q fault → IfWrite R fault
-write_both P Q R f (faults.Memory n) p q = tt
-write_both P Q R f (faults.Read n) p q = tt
-write_both P Q R f (faults.ReadLimit n) p q = tt
-write_both P Q R f (faults.Write n) p q = f n p q
+-- the script was run to its end
+pub ended_well : (limit : ℕ) (stop : Bool) (old new : Seen) (report : Report) → IsRun stop limit old new report
+    → StaysWhole old.is_reader_broken new.is_reader_broken → StaysWhole old.is_writer_broken new.is_writer_broken
+    → IsLegalState new.stands.state → IsLegalThroughout stop old.stands.state → RunPromise stop limit old new (Ok report)
+ended_well limit stop old new report run reader writer legal between = record {
+  headline = λ r w g. refl;
+  answers = run;
+  whole = (reader, writer);
+  memory = tt;
+  read = tt;
+  too_long = tt;
+  write = tt;
+  legal = legal;
+  between = between;
+}
+
+-- a piece was not given, or not fed
+module _ (limit room : ℕ) (stop : Bool) (old new : Seen) (mid : Option (List ℕ)) (place : RunPlace)
+    (s : Streamed limit room stop old.stands old.left mid place) (more : place.held.finished ≡ false) (same : new.stands ≡ place.standing)
+    (goes : (stop && nat_lt 0 place.report.refused) ≡ false) (none : first_statement place.held ≡ None)
+    (legal : IsLegalState new.stands.state) (between : IsLegalThroughout stop old.stands.state) where
+  pub ended_in_piece : (fault : RunFault)
+      → IfMemory (λ n. (n ≡ place.report.statements) × ((piece : List ℕ) × Consumes mid new.left piece)) fault
+      → IfRead (λ n. (n ≡ place.report.statements) × IsTrue new.is_reader_broken × KeepsIfTold mid new.left) fault
+      → IfReadLimit (λ n. (n ≡ place.report.statements) × ((piece : List ℕ) × Consumes mid new.left piece × (room < length piece))) fault
+      → IfWrite (λ n. ⊥) fault → RunPromise stop limit old new (Err fault)
+  ended_in_piece (faults.Memory n) m r l w = record {
+    headline = tt;
+    answers = tt;
+    whole = tt;
+    memory = at_piece limit room stop old.stands old.left mid new.left place s more n new.stands m.0 same m.1.0 m.1.1;
+    read = tt;
+    too_long = tt;
+    write = tt;
+    legal = legal;
+    between = between;
+  }
+  ended_in_piece (faults.Read n) m r l w = record {
+    headline = λ whole other gave. absurd (let wrong : false ≡ true = sym whole ∙ r.1 in cc);
+    answers = tt;
+    whole = tt;
+    memory = tt;
+    read = (r.1, at_read limit room stop old.stands old.left mid new.left place s more n new.stands r.0 same goes none r.2);
+    too_long = tt;
+    write = tt;
+    legal = legal;
+    between = between;
+  }
+  ended_in_piece (faults.ReadLimit n) m r l w = record {
+    headline = 
+        λ whole other gave. absurd (too_many limit old.left new.left (s.given ++ l.1.0) (Consumes-trans old.left mid new.left s.given l.1.0 s.moved l.1.1)
+        (let much : limit < length (s.given ++ l.1.0) = omega (arith, length-append s.given l.1.0, s.size, l.1.2) in much) gave);
+    answers = tt;
+    whole = tt;
+    memory = tt;
+    read = tt;
+    too_long = at_limit limit room stop old.stands old.left mid new.left place s more n new.stands l.0 same goes l.1.0 l.1.1 l.1.2;
+    write = tt;
+    legal = legal;
+    between = between;
+  }
+  ended_in_piece (faults.Write n) m r l w = absurd w
+
+-- a statement that was held found no memory, or its answer was not written whole
+module _ (limit room : ℕ) (stop : Bool) (old new : Seen) (place : RunPlace) (s : Streamed limit room stop old.stands old.left new.left place)
+    (at_end : place.held.finished ≡ true → IsAtEnd new.left)
+    (legal : IsLegalState new.stands.state) (between : IsLegalThroughout stop old.stands.state) where
+  pub ended_in_held : (fault : RunFault) → IfMemory (λ n. EndedAt stop place n new.stands) fault → IfWrite (λ n. EndedIn stop place n new.stands) fault
+      → IfWrite (λ n. IsTrue new.is_writer_broken) fault → IfRead (λ n. ⊥) fault → IfReadLimit (λ n. ⊥) fault → RunPromise stop limit old new (Err fault)
+  ended_in_held (faults.Memory n) m w broken r l = record {
+    headline = tt;
+    answers = tt;
+    whole = tt;
+    memory = at_memory limit room stop old.stands old.left new.left place s at_end n new.stands m;
+    read = tt;
+    too_long = tt;
+    write = tt;
+    legal = legal;
+    between = between;
+  }
+  ended_in_held (faults.Read n) m w broken r l = absurd r
+  ended_in_held (faults.ReadLimit n) m w broken r l = absurd l
+  ended_in_held (faults.Write n) m w broken r l = record {
+    headline = λ reader whole gave. absurd (let wrong : false ≡ true = sym whole ∙ broken in cc);
+    answers = tt;
+    whole = tt;
+    memory = tt;
+    read = tt;
+    too_long = tt;
+    write = (broken, at_write limit room stop old.stands old.left new.left place s at_end n new.stands w);
+    legal = legal;
+    between = between;
+  }
