@@ -44,7 +44,7 @@ pub has_name-added : (n : List ℕ) (bs : List Addition) (t : Tuple) → has_nam
 has_name-added n bs t = ap (has_name n) (names_added bs t) ∙ sym (has_attribute-names n (added_attributes bs))
 
 -- where no new name is in the heading, none of the heading's is new
-apart : (g h : Heading) → have_no_common g h ≡ true → (n : List ℕ) → has_attribute n h ≡ true → has_attribute n g ≡ false
+pub apart : (g h : Heading) → have_no_common g h ≡ true → (n : List ℕ) → has_attribute n h ≡ true → has_attribute n g ≡ false
 apart [] h e n there = refl
 apart (a ∷ g) h e n there = by_name (same_name a.0 n) refl (apart g h (second_of _ _ e) n there)
   where

@@ -3,9 +3,9 @@ use Rattle.std.proofs.Common.{◌≡◌, ◌∙◌, ap, sym, refl, subst, ℕ, B
 use Rattle.std.specs.Prelude.{◌&&◌, ◌||◌, not, if◌then◌else◌, is_some}
 use Rattle.std.specs.List.{Contains, list_any}
 use Rattle.std.specs.Ordering.{eq_by_cmp}
-use Rattle.td_types.specs.model.Headings.{agree, has_attribute, has_name, heading_union, projection}
-use Rattle.td_types.specs.model.Types.{Type', Heading, IsAscending, attribute_names, type_at}
-use Rattle.td_types.proofs.HeadingLaws.{IsHeading-filter, IsAscending-projection, IsAscending-union, agreement_is_one_type, ascending_from_heading, has_attribute-names, type_at-projection, type_at-union, types_determine_heading}
+use Rattle.td_types.specs.model.Headings.{agree, has_attribute, has_name, have_no_common, heading_union, projection}
+use Rattle.td_types.specs.model.Types.{Type', Heading, IsAscending, attribute_names, same_name, type_at}
+use Rattle.td_types.proofs.HeadingLaws.{IsHeading-filter, IsAscending-projection, IsAscending-union, agreement_is_one_type, ascending_from_heading, has_attribute-names, same_name-itself, type_at-projection, type_at-union, types_determine_heading}
 use Rattle.td_value.specs.model.Agreement.{AgreeOn}
 use Rattle.std.proofs.lemmas.Cmp.{eq_by_cmp_equiv}
 use Rattle.std.proofs.lemmas.Map.Views.{Contains-from_any, list_any-from_Contains}
@@ -17,9 +17,10 @@ use Rattle.td_value.proofs.Kept.{IsTuple-filter}
 use Rattle.td_value.proofs.Members.{by_members}
 use Rattle.td_algebra.specs.laws.Equalities.{DifferenceIsSemidifference, IntersectionIsJoin, JoinIsAssociative, JoinIsCommutative, ProductIsJoin, RestrictionOfJoin, SemijoinIsProjectedJoin}
 use Rattle.td_algebra.specs.laws.Membership.{AreJoinable, IsIn}
-use Rattle.td_algebra.specs.model.Operators.{are_partners, common_names, intersection, join, projected_relation, relation_names, restriction, semijoin, united_tuple}
+use Rattle.td_algebra.specs.model.Operators.{are_partners, common_names, intersection, join, product, projected_relation, relation_names, restriction, semijoin, united_tuple}
 use Rattle.td_algebra.proofs.Entries.{no_value_outside, same_on_heading}
-use Rattle.td_algebra.proofs.Joined.{product_join}
+use Rattle.td_algebra.proofs.Extensions.{apart}
+use Rattle.td_algebra.proofs.Joined.{apart_agree, product_join}
 use Rattle.td_algebra.proofs.JoinMembers.{IsRelation-join, agree_from_partners, join_members, join_of_pairs, partners_from_agree, semijoin_members, value_in_united}
 use Rattle.td_algebra.proofs.Lists.{contains_filter, contains_first, contains_later, contains_map}
 use Rattle.td_algebra.proofs.PartnersByValues.{has_common}
@@ -152,6 +153,22 @@ join_commutes r s j =
     turned a b j k e t p c =
         let both = (join_members a b t j p).0 c in
         (join_members b a t k (subst (λ h. IsTupleOf h t) e p)).1 (both.1, both.0)
+
+-- a heading has nothing in common with one that has none of its names
+none_in_common : (g h : Heading) → ((n : List ℕ) → has_attribute n h ≡ true → has_attribute n g ≡ false) → have_no_common h g ≡ true
+none_in_common g [] lack = refl
+none_in_common g (a ∷ h) lack = rw (lack a.0 (rw (same_name-itself a.0) refl)) (none_in_common g h (λ n there. lack n (later n there (same_name a.0 n))))
+  where
+    later : (n : List ℕ) → has_attribute n h ≡ true → (b : Bool) → is_some (if b then Some a.1 else type_at n h) ≡ true
+    later n there true = refl
+    later n there false = there
+
+pub apart_turned : (g h : Heading) → have_no_common g h ≡ true → have_no_common h g ≡ true
+apart_turned g h e = none_in_common g h (apart g h e)
+
+pub product_commutes : (r s : Relation) → IsRelation r → IsRelation s → have_no_common r.heading s.heading ≡ true → product s r ≡ product r s
+product_commutes r s p q e =
+    product_join s r (apart_turned r.heading s.heading e) ∙ sym (join_commutes r s (p, q, apart_agree r.heading s.heading e)) ∙ sym (product_join r s e)
 
 pub product_is_join : ProductIsJoin
 product_is_join r s e = product_join r s e

@@ -259,6 +259,13 @@ pub fn times(alloc: Global, rel: &Rel, other: &Rel) -> Result<Rel, AllocError>
     if comes_before(rel.heading(), other.heading()) {
         return ascending_product(alloc, rel, other);
     }
+    if comes_before(other.heading(), rel.heading()) {
+        rel.reveal();
+        other.reveal();
+        rel.heading().reveal();
+        other.heading().reveal();
+        return ascending_product(alloc, other, rel);
+    }
     join(alloc, rel, other)
 }
 

@@ -7,6 +7,7 @@ pub mod Falls
 pub mod Headed
 pub mod HeadingOf
 pub mod Kept
+pub mod Keyed
 pub mod KnownValues
 pub mod LiteralHeights
 pub mod LiteralSpellings

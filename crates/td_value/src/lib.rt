@@ -9,6 +9,7 @@
 //! they mean stands in specs/model/Values.
 #![tactic(auto)]
 
+mod buckets;
 mod copy;
 mod hash;
 pub mod laws;

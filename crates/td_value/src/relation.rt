@@ -8,6 +8,7 @@ ghost use Rattle.td_value.specs.model.Values.{HaveSameMembers, HaveSameNames, Is
 ghost use Rattle.td_value.specs.model.Values.{IsTupleOf, relation_view, tuple_cmp, with_tuple};
 ghost use Rattle.td_value.specs.model.Values.{without_tuple};
 
+use crate::buckets::in_order_by_buckets;
 use crate::lists::put;
 use crate::numbered::{are_worth_numbering, in_order_by_numbers};
 use crate::order::compare_by_values;
@@ -85,6 +86,9 @@ fn in_order(rows: Vec<Tuple>) -> Vec<Tuple>
         return rows;
     }
     if are_worth_numbering(&rows) {
+        if let Ok(Some(sorted)) = in_order_by_buckets(*rows.allocator(), &rows) {
+            return sorted;
+        }
         if let Ok(list) = Vec::with_capacity(*rows.allocator(), rows.len()) {
             return in_order_by_numbers(rows, list);
         }
