@@ -1,7 +1,9 @@
 //! The tokens that come next, looked at before they are taken.
-ghost use Rattle.std.specs.Prelude.{◌≡◌, ◌++◌, Some, IfSome, eqb, length, option_map, suc};
+ghost use Rattle.std.specs.Prelude.{◌≡◌, ◌++◌, List, None, Some, IfSome, IsFalse, IsTrue, eqb};
+ghost use Rattle.std.specs.Prelude.{length, option_map, suc};
 ghost use Rattle.td_parse.specs.code.Parsing.{Eats, Sees, Takes};
 ghost use Rattle.td_tree.specs.model.Lexemes as lexeme;
+ghost use Rattle.td_tree.specs.model.Lexemes.{Lexeme};
 ghost use Rattle.td_tree.specs.model.Pieces.{kind_of};
 ghost use Rattle.td_parse.specs.code.ReadingSteps.{expect};
 ghost use Rattle.td_tree.specs.model.Symbols.{symbols};
@@ -84,6 +86,34 @@ impl<'a, 't> Ahead<'a, 't> {
         match self.listed {
             [token, ..] => Some(token.kind()),
             [] => self.upcoming.kind(),
+        }
+    }
+
+    /// Whether this sign comes next.
+    #[inline]
+    #[tactic(auto, unfolding(crate::specs::code::ReadingSteps::expect))]
+    pub fn has_sign(&self, sign: Sign) -> bool
+        ensures yes { IsTrue result
+            → (after : List Lexeme) × (expect (lexeme.sign sign) self.now ≡ Some after) }
+        ensures no { IsFalse result → expect (lexeme.sign sign) self.now ≡ None }
+    {
+        match self.kind() {
+            Some(Kind::Sign(found)) if found == sign => true,
+            _ => false,
+        }
+    }
+
+    /// Whether this reserved word comes next.
+    #[inline]
+    #[tactic(auto, unfolding(crate::specs::code::ReadingSteps::expect))]
+    pub fn has_keyword(&self, word: Keyword) -> bool
+        ensures yes { IsTrue result
+            → (after : List Lexeme) × (expect (lexeme.keyword word) self.now ≡ Some after) }
+        ensures no { IsFalse result → expect (lexeme.keyword word) self.now ≡ None }
+    {
+        match self.kind() {
+            Some(Kind::Reserved(found)) if found == word => true,
+            _ => false,
         }
     }
 

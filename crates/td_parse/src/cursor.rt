@@ -47,7 +47,7 @@ impl<'a, 't> Cursor<'a, 't> {
     {
         Cursor {
             left: Ahead::new(tokens),
-            names: SharedNames::new(alloc),
+            names: SharedNames::new(alloc, false),
             parts: 0,
         }
     }
@@ -58,7 +58,7 @@ impl<'a, 't> Cursor<'a, 't> {
     {
         Cursor {
             left: Ahead::of_statement(tokens),
-            names: SharedNames::new(alloc),
+            names: SharedNames::new(alloc, true),
             parts: 0,
         }
     }
@@ -82,6 +82,13 @@ impl<'a, 't> Cursor<'a, 't> {
         ensures { result ≡ self.now }
     {
         self.left.again()
+    }
+
+    /// The tokens that come next, for a look that takes none.
+    pub fn look(&self) -> &Ahead<'a, 't>
+        ensures { result.now ≡ self.now }
+    {
+        &self.left
     }
 
     /// Goes to where looking ahead has come.

@@ -138,7 +138,7 @@ impl<F: Fn(Global, u16, Level, &mut Cursor<'_, '_>) -> Result<Found, Fault>> Gra
             (reading.postfix_expression (read self.now.depth) self.now.depth tokens.old)) }
     {
         let first = self.primary(tokens)?;
-        if ends(&tokens.ahead()) {
+        if ends(tokens.look()) {
             return Ok(first);
         }
         let left = self.postfixes(first, tokens)?;

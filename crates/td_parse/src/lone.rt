@@ -1,5 +1,5 @@
 //! Literals and tuples that are expressions by themselves.
-ghost use Rattle.std.specs.Prelude.{◌≡◌, IfOk, Some, option_map};
+ghost use Rattle.std.specs.Prelude.{◌≡◌, ℕ, List, IfOk, IsFalse, None, Some, option_map};
 ghost use Rattle.td_parse.specs.code.Lone as lone;
 ghost use Rattle.td_parse.specs.code.Parsing.{Tries, seen_as};
 ghost use Rattle.td_tree.specs.model.Numbers.{decimal_value};
@@ -57,6 +57,17 @@ fn literal_of(alloc: Global, kind: Kind, text: &[u8]) -> Result<Option<Literal>,
     }
 }
 
+/// Whether a token of this kind may be a literal.
+#[inline]
+fn may_be_literal(kind: Kind) -> bool
+    ensures { IsFalse result → (text : List ℕ) → lone.literal_of (seen_as kind text) ≡ None }
+{
+    matches!(
+        kind,
+        Kind::Number | Kind::Text | Kind::Reserved(Keyword::True | Keyword::False)
+    )
+}
+
 /// Takes a literal, if it comes next and what stands behind it ends it.
 #[tactic(auto, unfolding(crate::specs::code::Lone::lone_literal))]
 pub fn lone_literal(
@@ -66,6 +77,10 @@ pub fn lone_literal(
     ensures { IfOk result (λ l. Tries (option_map literal_view l) tokens.old tokens.new
         (lone.lone_literal tokens.old)) }
 {
+    match tokens.kind() {
+        Some(kind) if may_be_literal(kind) => {}
+        _ => return Ok(None),
+    }
     let mut ahead = tokens.ahead();
     let Some((kind, text)) = ahead.take() else {
         return Ok(None);
@@ -85,6 +100,9 @@ pub fn lone_literal(
 pub fn opens_tuple(tokens: &Cursor<'_, '_>) -> bool
     ensures { result ≡ lone.tuple_at tokens.now }
 {
+    if !tokens.look().has_keyword(Keyword::Tuple) {
+        return false;
+    }
     let mut ahead = tokens.ahead();
     ahead.keyword(Keyword::Tuple) && ahead.sign(Sign::OpenBrace)
 }

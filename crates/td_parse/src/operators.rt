@@ -1,7 +1,8 @@
 //! What the next tokens begin: an operator, a comparison, a call and so on.
-ghost use Rattle.std.specs.Prelude.{◌≡◌, IfOk};
-ghost use Rattle.td_parse.specs.code.Parsing.{Eats, Finds, Tries};
+ghost use Rattle.std.specs.Prelude.{◌≡◌, ◌∷◌, ℕ, List, IfOk, IsFalse, None};
+ghost use Rattle.td_parse.specs.code.Parsing.{Eats, Finds, Tries, seen_as};
 ghost use Rattle.td_tree.specs.model.Grammar as grammar;
+ghost use Rattle.td_tree.specs.model.Lexemes.{Lexeme};
 ghost use Rattle.td_parse.specs.code.ReadingOperators as reading;
 ghost use Rattle.td_parse.specs.code.Walking as walking;
 
@@ -226,12 +227,33 @@ fn any_infix(tokens: &mut Ahead<'_, '_>) -> Option<Infix>
     }
 }
 
+/// Whether what stands between operands may begin with a token of this kind.
+#[tactic(auto, unfolding(crate::specs::code::Walking::any_infix))]
+#[inline]
+fn may_be_infix(kind: Kind) -> bool
+    ensures { IsFalse result → (text : List ℕ) (later : List Lexeme)
+        → walking.any_infix (seen_as kind text ∷ later) ≡ None }
+{
+    match kind {
+        Kind::Reserved(_) => true,
+        Kind::Sign(sign) => !matches!(
+            sign,
+            Sign::Comma | Sign::CloseParenthesis | Sign::CloseBrace | Sign::Semicolon
+        ),
+        _ => false,
+    }
+}
+
 /// Takes what stands between operands at one of these levels, if it comes next.
-#[tactic(auto, unfolding(crate::specs::code::Walking::infix_at))]
+#[tactic(auto, unfolding(crate::specs::code::Walking::infix_at, crate::specs::code::Walking::any_infix))]
 pub fn next_infix(loosest: Level, tightest: Level, tokens: &mut Cursor<'_, '_>) -> Option<Infix>
     ensures { Tries result tokens.old tokens.new
         (walking.infix_at (walking.tightness loosest) (walking.tightness tightest) tokens.old) }
 {
+    match tokens.kind() {
+        Some(kind) if may_be_infix(kind) => {}
+        _ => return None,
+    }
     let mut ahead = tokens.ahead();
     let op = any_infix(&mut ahead)?;
     if !op.is_between(loosest, tightest) {
@@ -273,10 +295,28 @@ fn any_prefix(tokens: &mut Ahead<'_, '_>) -> Option<Prefix>
     }
 }
 
+/// Whether an operator before its operand may begin with a token of this kind.
+#[tactic(auto, unfolding(crate::specs::code::ReadingOperators::prefix_at))]
+#[inline]
+fn may_be_prefix(kind: Kind) -> bool
+    ensures { IsFalse result → (text : List ℕ) (later : List Lexeme)
+        → reading.prefix_at (seen_as kind text ∷ later) ≡ None }
+{
+    matches!(
+        kind,
+        Kind::Reserved(Keyword::Tclose | Keyword::Tuple) | Kind::Sign(Sign::Minus)
+    )
+}
+
 /// Takes an operator that stands before its operand, if one comes next.
+#[tactic(auto, unfolding(crate::specs::code::ReadingOperators::prefix_at))]
 pub fn prefix(tokens: &mut Cursor<'_, '_>) -> Option<Prefix>
     ensures { Tries result tokens.old tokens.new (reading.prefix_at tokens.old) }
 {
+    match tokens.kind() {
+        Some(kind) if may_be_prefix(kind) => {}
+        _ => return None,
+    }
     let mut ahead = tokens.ahead();
     let op = any_prefix(&mut ahead)?;
     tokens.go_to(ahead);
@@ -288,6 +328,10 @@ pub fn prefix(tokens: &mut Cursor<'_, '_>) -> Option<Prefix>
 pub fn extraction(alloc: Global, tokens: &mut Cursor<'_, '_>) -> Result<Option<Name>, AllocError>
     ensures { IfOk result (λ n. Tries n tokens.old tokens.new (reading.extraction_at tokens.old)) }
 {
+    match tokens.kind() {
+        Some(Kind::Name) => {}
+        _ => return Ok(None),
+    }
     let mut ahead = tokens.ahead();
     let Some((Kind::Name, text)) = ahead.take() else {
         return Ok(None);
@@ -317,6 +361,9 @@ fn begins_setting(tokens: &Ahead<'_, '_>) -> bool
 pub fn call(tokens: &mut Cursor<'_, '_>) -> bool
     ensures { Eats (reading.call_at tokens.old) result tokens.old tokens.new }
 {
+    if !tokens.look().has_sign(Sign::OpenParenthesis) {
+        return false;
+    }
     let mut ahead = tokens.ahead();
     if !ahead.sign(Sign::OpenParenthesis) || begins_setting(&ahead) {
         return false;

@@ -8,31 +8,41 @@ use std::alloc::{AllocError, Global};
 use td_tree::name::Name;
 use td_tree::token::Kind;
 
-/// How many names are kept at most.
-const PLACES: usize = 64;
+/// How many names are kept at most, of a statement that has few tokens.
+const FEW_PLACES: usize = 16;
+
+/// How many names are kept at most, of one that has many.
+const MANY_PLACES: usize = 64;
 
 /// Where a name with these bytes is kept.
-fn place_of(text: &[u8]) -> usize
+fn place_of(text: &[u8], has_many: bool) -> usize
     ensures { result < 64 }
 {
     let mut sum = text.len();
     for byte in text {
         sum = sum.wrapping_mul(31).wrapping_add(usize::from(*byte));
     }
-    sum % PLACES
+    if has_many {
+        sum % MANY_PLACES
+    } else {
+        sum % FEW_PLACES
+    }
 }
 
 /// Names, each at the place that its bytes choose; the one met last stays there.
 #[derive(Drop)]
 pub struct SharedNames {
     places: Vec<Option<Name>>,
+    /// Whether there are many places.
+    has_many: bool,
 }
 
 impl SharedNames {
-    /// None.
-    pub fn new(alloc: Global) -> SharedNames {
+    /// None, of a statement that has few tokens or many.
+    pub fn new(alloc: Global, has_many: bool) -> SharedNames {
         SharedNames {
             places: Vec::new(alloc),
+            has_many,
         }
     }
 
@@ -51,7 +61,12 @@ impl SharedNames {
     /// Keeps a name at its place.
     fn keep(&mut self, place: usize, name: Name) -> Result<(), AllocError> {
         if self.places.is_empty() {
-            self.places.resize_with(PLACES, || None)?;
+            let count = if self.has_many {
+                MANY_PLACES
+            } else {
+                FEW_PLACES
+            };
+            self.places.resize_with(count, || None)?;
         }
         if let Some(kept) = self.places.get_mut(place) {
             *kept = Some(name);
@@ -64,7 +79,7 @@ impl SharedNames {
         requires { kind_of (symbols text.now) ≡ Some Kind.Name }
         ensures { IfOk result (λ n. n ≡ text.now) }
     {
-        let place = place_of(text);
+        let place = place_of(text, self.has_many);
         if let Some(name) = self.at(place, text) {
             return name.try_clone();
         }

@@ -62,7 +62,7 @@ fn body(alloc: Global, tokens: &mut Cursor<'_, '_>) -> Result<Statement, Fault>
 fn body_or_none(alloc: Global, tokens: &mut Cursor<'_, '_>) -> Result<Statement, Fault>
     ensures { Moves statement_view result tokens.new (reading.read_body tokens.old) }
 {
-    if tokens.ahead().sign(Sign::Semicolon) {
+    if tokens.look().has_sign(Sign::Semicolon) {
         return Ok(Statement::Empty);
     }
     body(alloc, tokens)

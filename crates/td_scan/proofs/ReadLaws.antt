@@ -182,6 +182,19 @@ goes_nowhere r bs unended begun = record {
   begun = subst (λ n. IsBegun (drop n bs) r.begun) (let n : 0 ≡ r.start - r.start = omega arith in n) begun;
 }
 
+-- more of a piece is read
+pub goes_within : (r : Reading) (begun : Option First) (bs : List ℕ) → r.is_whole ≡ false → IsBegun bs begun
+    → GoesOn r (record { count = r.count; is_bad = r.is_bad; is_whole = r.is_whole; start = r.start; begun = begun }) bs
+goes_within r begun bs unended is_begun = record {
+  passed = [];
+  passes = passes_nothing r.start bs;
+  count = omega arith;
+  bad = or_none r.is_bad;
+  unended = λ e. refl;
+  whole = λ e. absurd (wrong r.is_whole unended e);
+  begun = subst (λ n. IsBegun (drop n bs) begun) (let n : 0 ≡ r.start - r.start = omega arith in n) is_begun;
+}
+
 both_bad : (a b c : Bool) (ts us : List PlacedToken) → b ≡ (a || list_any is_bad_token ts) → c ≡ (b || list_any is_bad_token us) → c ≡ (a || list_any is_bad_token (ts ++ us))
 both_bad a b c ts us one two =
     two ∙ ap (λ x. x || list_any is_bad_token us) one ∙ or_assoc a (list_any is_bad_token ts) (list_any is_bad_token us)

@@ -10,7 +10,7 @@ ghost use Rattle.td_tree.specs.model.Statements.{first_statement};
 ghost use Rattle.td_tree.specs.model.Statements.{tokens};
 
 use crate::queue::Queue;
-use crate::reading::{Reading, bytes_from, is_end, may_end, read_on};
+use crate::reading::{Reading, bytes_from, is_end, may_end, read_on, read_through};
 use crate::token::{Token, first_token};
 use crate::upcoming::Upcoming;
 use std::alloc::{AllocError, Global};
@@ -67,11 +67,13 @@ fn end_with_rest(bytes: &[u8], offset: u64, finished: bool, so_far: u64, none: u
     if finished { last } else { none }
 }
 
-/// How many tokens a statement has at least, and at most, that are read as they are asked for. A
-/// list has room for the first number of them.
+/// How many tokens a statement has at least, and at most, that are read as they are asked for.
 const FEWEST: usize = 64;
 
 const MOST: usize = 4_294_967_295;
+
+/// How many tokens a list has room for at first: room for more is slow to come by.
+const LISTED: usize = 32;
 
 /// A statement that its `;` ends, in the bytes of the script.
 #[derive(Drop)]
@@ -140,7 +142,10 @@ impl Cutter {
         self.bytes.extend(piece)?;
         if !is_first && !self.reading.is_whole {
             let rest = bytes_from(self.bytes.as_slice(), self.offset, self.reading.start);
-            self.reading = read_on(self.reading, rest);
+            match read_through(&self.reading, rest) {
+                Some(first) => self.reading.begun = Some(first),
+                None => self.reading = read_on(self.reading, rest),
+            }
         }
         Ok(())
     }
@@ -153,7 +158,7 @@ impl Cutter {
     }
 
     /// Whether there is no statement yet, as far as can be told without a look at what was read.
-    fn awaits(&self) -> bool
+    pub fn awaits(&self) -> bool
         ensures { IsTrue result → first_statement self.now ≡ None }
     {
         if self.finished || self.reading.is_whole {
@@ -173,7 +178,7 @@ impl Cutter {
         if self.awaits() {
             return Ok(None);
         }
-        let room = self.reading.count.max(FEWEST);
+        let room = self.reading.count.max(LISTED);
         let list = Vec::with_capacity(self.bytes.allocator(), room)?;
         statement_of(list, self.bytes.as_slice(), self.offset, self.finished)
     }

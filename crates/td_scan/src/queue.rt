@@ -4,6 +4,9 @@ ghost use Rattle.std.specs.Prelude.{◌≡◌, ◌+◌, ◌≤◌, [], ◌∷◌
 use std::alloc::{AllocError, Global};
 use std::marker::Model;
 
+/// How many items are so many that their room is let go once they were taken off.
+const MANY: usize = 65_536;
+
 /// Items in order. The room of those taken off the front is used again.
 #[derive(Drop)]
 pub(crate) struct Queue<T: Copy> {
@@ -77,12 +80,16 @@ impl<T: Copy> Queue<T> {
         self.items.truncate(self.taken + count);
     }
 
-    /// Takes so many items off the front.
+    /// Takes so many items off the front, and lets the room of many go.
     pub(crate) fn take_off(&mut self, count: usize)
         requires { count ≤ length self.old }
         ensures { self.new ≡ drop count self.old }
     {
         self.taken += count;
+        if count >= MANY {
+            self.close_up();
+            self.items.shrink_to_fit();
+        }
     }
 
     /// Moves the items to the front once as many or more were taken off, so that each is moved for

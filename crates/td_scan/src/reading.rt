@@ -1,6 +1,7 @@
 //! Reading bytes behind which others may come: what is known stays.
 ghost use Rattle.std.specs.Prelude.{◌≡◌, ◌+◌, ◌-◌, ◌<◌, ◌≤◌, ◌^◌, ◌++◌, ◌||◌, ℕ, List, IfOk};
-ghost use Rattle.std.specs.Prelude.{IfErr, IfNone, IsFalse, IsTrue, None, drop, false, length};
+ghost use Rattle.std.specs.Prelude.{IfErr, IfNone, IfSome, IsFalse, IsTrue, None, Some, drop, false};
+ghost use Rattle.std.specs.Prelude.{length};
 ghost use Rattle.td_scan.specs.code.Fronts.{end_from};
 ghost use Rattle.td_scan.specs.code.Progress.{GoesOn, IsBegun, IsFirst, is_bad_kind, is_end_piece};
 ghost use Rattle.td_scan.specs.code.Progress.{past_token, read_of, unread};
@@ -272,6 +273,27 @@ pub(crate) fn read_on(reading: Reading, bytes: &[u8]) -> Reading
         so_far = past;
     }
     so_far
+}
+
+/// How much of the piece is read in which a reading stands, where all the bytes behind leave it as
+/// it is, as those of a long text do.
+#[inline]
+pub(crate) fn read_through(reading: &Reading, bytes: &[u8]) -> Option<First>
+    requires begun { IsBegun bytes.now reading.now.begun }
+    requires unended { reading.now.is_whole ≡ false }
+    ensures { IfSome result
+        (λ first. GoesOn reading.now (record reading.now { begun = Some first }) bytes.now) }
+{
+    let begun = reading.begun?;
+    let (_, rest) = bytes.split_at(begun.length);
+    let run = run_length(begun.piece, rest);
+    if run < rest.len() {
+        return None;
+    }
+    Some(First {
+        length: begun.length + run,
+        piece: begun.piece,
+    })
 }
 
 /// Whether the piece is a `;`.

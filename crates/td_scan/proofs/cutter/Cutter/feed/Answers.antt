@@ -4,8 +4,8 @@ use Rattle.td_scan.specs.code.Progress.{GoesOn, Keeps}
 use Rattle.td_scan.proofs.HeldReads.{fed, fed_whole}
 use Rattle.td_scan.proofs.cutter.Cutter.feed.Goals as goal
 
-pub invariant_of-self-then-not-self : goal.invariant_of-self-then-not-self
-invariant_of-self-then-not-self c =
+pub invariant_of-self-in-None : goal.invariant_of-self-in-None
+invariant_of-self-in-None c =
     let s = c.self.inside in
     let more = c.args.piece.now in
     let all = c.in_ok-extend.ensures.ok ∙ ap (λ b. b ++ more) c.close_up.ensures in
