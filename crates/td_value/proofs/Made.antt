@@ -9,6 +9,16 @@ use Rattle.td_value.specs.code.Depths.{depth, parts_depth, tuple_depth}
 use Rattle.td_value.specs.code.Views.{tuple_view, values_of}
 use Rattle.td_value.specs.code.Zipped.{AreNames}
 
+-- rows of values that hold no others nest as deep as all of these
+pub flat_rows : (ns : List (List ℕ)) (k : ℕ) (vs : List Val) (d : ℕ) → d ≤ 1 → 0 < length ns → AreWhole ns k vs → AreAsDeep ns k vs d
+flat_rows ns zero vs d flat wide w = tt
+flat_rows ns (suc k) vs d flat wide w = (first ns vs wide w.0, flat_rows ns k (drop (length ns) vs) d flat wide w.1)
+  where
+    first : (ms : List (List ℕ)) (ws : List Val) → 0 < length ms → length ms ≤ length ws → d ≤ tuple_depth (tuple_view ms ws)
+    first [] ws p e = absurd (omega (arith, p))
+    first (m ∷ ms) [] p e = absurd (omega (arith, e))
+    first (m ∷ ms) (w ∷ ws) p e = omega (arith, flat)
+
 -- the only row of a block
 pub only_row : (ns : List (List ℕ)) (vs : List Val) (width : ℕ) → width ≡ length vs → length ns ≡ length vs → IsTuple (tuple_view ns vs) → IsRow ns width 0 vs
 only_row ns vs width w e valid =

@@ -132,6 +132,9 @@ fn are_alike(names: &[Name], count: usize, cells: &[Value]) -> bool
     if count == 0 {
         return true;
     }
+    if width > 0 && are_flat(cells) {
+        return true;
+    }
     let level = level_of_row(&cells[..width]);
     if level == 0 {
         return false;
