@@ -47,7 +47,7 @@ impl<'a, 't> Cursor<'a, 't> {
     {
         Cursor {
             left: Ahead::new(tokens),
-            names: SharedNames::new(alloc, false),
+            names: SharedNames::new(alloc),
             parts: 0,
         }
     }
@@ -58,7 +58,7 @@ impl<'a, 't> Cursor<'a, 't> {
     {
         Cursor {
             left: Ahead::of_statement(tokens),
-            names: SharedNames::new(alloc, true),
+            names: SharedNames::new(alloc),
             parts: 0,
         }
     }

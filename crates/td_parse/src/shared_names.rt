@@ -1,5 +1,5 @@
 //! The names that were met: one text stands for all places of a name.
-ghost use Rattle.std.specs.Prelude.{◌≡◌, ◌<◌, Some, IfOk, IfSome};
+ghost use Rattle.std.specs.Prelude.{◌≡◌, Some, IfOk, IfSome};
 ghost use Rattle.td_tree.specs.model.Pieces.{kind_of};
 ghost use Rattle.td_tree.specs.model.Symbols.{symbols};
 
@@ -8,41 +8,28 @@ use std::alloc::{AllocError, Global};
 use td_tree::name::Name;
 use td_tree::token::Kind;
 
-/// How many names are kept at most, of a statement that has few tokens.
-const FEW_PLACES: usize = 16;
+/// How many names are kept at most.
+const MOST: usize = 256;
 
-/// How many names are kept at most, of one that has many.
-const MANY_PLACES: usize = 64;
+/// Among how many of them, those that were met first, a name is looked for that does not come where
+/// it is expected.
+const SEARCHED: usize = 16;
 
-/// Where a name with these bytes is kept.
-fn place_of(text: &[u8], has_many: bool) -> usize
-    ensures { result < 64 }
-{
-    let mut sum = text.len();
-    for byte in text {
-        sum = sum.wrapping_mul(31).wrapping_add(usize::from(*byte));
-    }
-    if has_many {
-        sum % MANY_PLACES
-    } else {
-        sum % FEW_PLACES
-    }
-}
-
-/// Names, each at the place that its bytes choose; the one met last stays there.
+/// Names in the order in which they were met. Most often they come again in that order, as those of
+/// one tuple after another do.
 #[derive(Drop)]
 pub struct SharedNames {
-    places: Vec<Option<Name>>,
-    /// Whether there are many places.
-    has_many: bool,
+    names: Vec<Name>,
+    /// Where the next name is expected.
+    next: usize,
 }
 
 impl SharedNames {
-    /// None, of a statement that has few tokens or many.
-    pub fn new(alloc: Global, has_many: bool) -> SharedNames {
+    /// None.
+    pub fn new(alloc: Global) -> SharedNames {
         SharedNames {
-            places: Vec::new(alloc),
-            has_many,
+            names: Vec::new(alloc),
+            next: 0,
         }
     }
 
@@ -50,7 +37,7 @@ impl SharedNames {
     fn at(&self, place: usize, text: &[u8]) -> Option<&Name>
         ensures { IfSome result (λ n. n.now ≡ text.now) }
     {
-        let name = self.places.get(place)?.as_ref()?;
+        let name = self.names.get(place)?;
         if name.as_str().as_bytes() == text {
             Some(name)
         } else {
@@ -58,19 +45,25 @@ impl SharedNames {
         }
     }
 
-    /// Keeps a name at its place.
-    fn keep(&mut self, place: usize, name: Name) -> Result<(), AllocError> {
-        if self.places.is_empty() {
-            let count = if self.has_many {
-                MANY_PLACES
-            } else {
-                FEW_PLACES
-            };
-            self.places.resize_with(count, || None)?;
+    /// Where the name with these bytes is, or where it would come.
+    fn place_of(&self, text: &[u8]) -> usize {
+        if self.at(self.next, text).is_some() {
+            return self.next;
         }
-        if let Some(kept) = self.places.get_mut(place) {
-            *kept = Some(name);
+        for place in 0..self.names.len().min(SEARCHED) {
+            if self.at(place, text).is_some() {
+                return place;
+            }
         }
+        self.names.len()
+    }
+
+    /// Keeps a name behind the others; where they are too many it is the first again.
+    fn keep(&mut self, name: Name) -> Result<(), AllocError> {
+        if self.names.len() >= MOST {
+            self.names.clear();
+        }
+        self.names.push(name)?;
         Ok(())
     }
 
@@ -79,12 +72,13 @@ impl SharedNames {
         requires { kind_of (symbols text.now) ≡ Some Kind.Name }
         ensures { IfOk result (λ n. n ≡ text.now) }
     {
-        let place = place_of(text, self.has_many);
+        let place = self.place_of(text);
+        self.next = place.wrapping_add(1);
         if let Some(name) = self.at(place, text) {
             return name.try_clone();
         }
         let name = name_of(alloc, text)?;
-        self.keep(place, name.try_clone()?)?;
+        self.keep(name.try_clone()?)?;
         Ok(name)
     }
 }
