@@ -413,7 +413,9 @@ pub(crate) fn assign<B: Body>(
     ensures after { OnOk result (AreKeptPlans catalog.new.database plans.new.items) }
     ensures on { GoesOn catalog.old catalog.new }
 {
-    match given_by(alloc, catalog, &assignments) {
+    let given = given_by(alloc, catalog, &assignments);
+    drop(assignments);
+    match given {
         Ok(given) => assign_each(alloc, catalog, plans, &given),
         Err(fault) => Err(failure_of(fault)),
     }
