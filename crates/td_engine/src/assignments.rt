@@ -414,7 +414,10 @@ pub(crate) fn assign<B: Body>(
     ensures on { GoesOn catalog.old catalog.new }
 {
     match given_by(alloc, catalog, &assignments) {
-        Ok(given) => assign_each(alloc, catalog, plans, &given),
+        Ok(given) => {
+            drop(assignments);
+            assign_each(alloc, catalog, plans, &given)
+        }
         Err(fault) => Err(failure_of(fault)),
     }
 }

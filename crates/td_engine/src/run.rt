@@ -87,11 +87,12 @@ pub enum RunFault {
     Write { done: u64 },
 }
 
-/// Reads a piece of the script, of which so many bytes may still come, and feeds it. It answers how
-/// many bytes it has; at the source's end that is 0, and the cutter is finished.
+/// Reads a piece of the script, of which so many bytes may still come, by a buffer, and feeds it. It
+/// answers how many bytes it has; at the source's end that is 0, and the cutter is finished.
 fn read_piece<R: Source>(
     reader: &mut R,
     cutter: &mut Cutter,
+    buffer: &mut [u8; PIECE],
     room: u64,
     done: u64,
 ) -> Result<u64, RunFault>
@@ -110,8 +111,7 @@ fn read_piece<R: Source>(
         × (room < length piece)))) }
     ensures write { IfErr result (IfWrite (λ n. ⊥)) }
 {
-    let mut buffer = [0u8; PIECE];
-    let Ok(count) = reader.pull(&mut buffer) else {
+    let Ok(count) = reader.pull(buffer) else {
         return Err(RunFault::Read { done });
     };
     if count == 0 {
@@ -233,6 +233,9 @@ fn run_held<B: Body, W: Sink>(
     ensures read { IfErr result (IfRead (λ done. ⊥)) }
     ensures limit { IfErr result (IfReadLimit (λ done. ⊥)) }
 {
+    if cutter.awaits() {
+        return Ok(());
+    }
     'statements: while !report.is_over(stop) {
         match run_one(alloc, engine, cutter, writer, report) {
             Ok(true) => {}
@@ -291,8 +294,9 @@ pub fn run_within<B: Body, R: Source, W: Sink>(
     let mut cutter = Cutter::new(alloc);
     let mut report = Report::new();
     let mut room = limit;
+    let mut buffer = [0u8; PIECE];
     'pieces: while !report.is_over(stop) {
-        let count = match read_piece(reader, &mut cutter, room, report.statements) {
+        let count = match read_piece(reader, &mut cutter, &mut buffer, room, report.statements) {
             Ok(count) => count,
             Err(fault) => return Err(fault),
         };

@@ -5,6 +5,10 @@ use Rattle.td_engine.proofs.run.run_held.Goals as goal
 use Rattle.td_engine.specs.model.Standing.{standing}
 use Rattle.td_engine.specs.code.Turns.{RunPlace, place_at}
 
+pub returns-then-awaits-clause-advanced : goal.returns-then-awaits-clause-advanced
+returns-then-awaits-clause-advanced g c =
+    stays c.args.stop (place_at c.args.cutter.now (standing c.args.engine.now (g.W.Sink.taken c.args.writer.now)) c.args.report.now)
+
 pub statements-init : goal.statements-init
 statements-init g c = (
   stays c.args.stop (place_at c.args.cutter.now (standing c.args.engine.now (g.W.Sink.taken c.args.writer.now)) c.args.report.now),
