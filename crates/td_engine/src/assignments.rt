@@ -413,10 +413,11 @@ pub(crate) fn assign<B: Body>(
     ensures after { OnOk result (AreKeptPlans catalog.new.database plans.new.items) }
     ensures on { GoesOn catalog.old catalog.new }
 {
-    let given = given_by(alloc, catalog, &assignments);
-    drop(assignments);
-    match given {
-        Ok(given) => assign_each(alloc, catalog, plans, &given),
+    match given_by(alloc, catalog, &assignments) {
+        Ok(given) => {
+            drop(assignments);
+            assign_each(alloc, catalog, plans, &given)
+        }
         Err(fault) => Err(failure_of(fault)),
     }
 }

@@ -86,9 +86,19 @@ impl<T: Copy> Queue<T> {
         ensures { self.new ≡ drop count self.old }
     {
         self.taken += count;
-        if count >= MANY {
-            self.close_up();
-            self.items.shrink_to_fit();
+        if count >= MANY && self.len() <= self.taken {
+            self.make_small();
+        }
+    }
+
+    /// Moves the items into room for them alone, where there is memory for it.
+    fn make_small(&mut self)
+        ensures { self.new ≡ self.old }
+    {
+        let mut items = Vec::new(self.allocator());
+        if items.extend_from_slice(self.as_slice()).is_ok() {
+            self.items = items;
+            self.taken = 0;
         }
     }
 
