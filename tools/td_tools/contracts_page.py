@@ -1,4 +1,5 @@
 """What docs/proved.md tells of each crate: its calls with their clauses, and its laws."""
+import re
 import textwrap
 
 WIDTH = 100
@@ -29,10 +30,13 @@ def item(name, *said, note=""):
 
 
 def clause(one):
-    """Its label, or the clause itself."""
+    """Its label, or the clause itself, or the promise that it is, with its parts left out."""
     if one.label:
         return undivided(f"`{one.label}`")
-    return undivided(f"`{one.says}`") if len(one.says) <= SHORT else "a longer clause"
+    if len(one.says) <= SHORT:
+        return undivided(f"`{one.says}`")
+    promise = re.match(r"\w+Promise\b", one.says)
+    return f"`{promise[0]}`" if promise else "a longer clause"
 
 
 def clauses(call, kind):
