@@ -254,9 +254,9 @@ module _ (stop : Bool) (old new : State) (before after told taken : Option (List
       → ScriptPromise Dump stop (seen old before reader_before told writer_before) (seen new after reader_after taken writer_after) r
   dump_promised (Ok x) w whole m cut broken r l = record {
     headline = λ reader writer gave. refl;
-    answers = 
-          subst (λ (y : Report). OfSession stop (status_of y.refused) before after (λ script. HasAnswered Dump (run_of stop (standing old told) script) (status_of y.refused) taken))
-          (sym w.0) (of_session stop report before after _ _ (λ script left. dumped stop old new told None p.legal script report left taken w.1) p.answers);
+    answers =
+        subst (λ (y : Report). OfSession stop (status_of y.refused) before after (λ script. HasAnswered Dump (run_of stop (standing old told) script) (status_of y.refused) taken))
+        (sym w.0) (of_session stop report before after _ _ (λ script left. dumped stop old new told None p.legal script report left taken w.1) p.answers);
     whole = (p.whole.0, whole);
     memory = tt;
     read = tt;

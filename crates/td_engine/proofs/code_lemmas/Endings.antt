@@ -389,7 +389,7 @@ module _ (limit room : ℕ) (stop : Bool) (old new : Seen) (mid : Option (List �
     between = between;
   }
   ended_in_piece (faults.ReadLimit n) m r l w = record {
-    headline = 
+    headline =
         λ whole other gave. absurd (too_many limit old.left new.left (s.given ++ l.1.0) (Consumes-trans old.left mid new.left s.given l.1.0 s.moved l.1.1)
         (let much : limit < length (s.given ++ l.1.0) = omega (arith, length-append s.given l.1.0, s.size, l.1.2) in much) gave);
     answers = tt;
