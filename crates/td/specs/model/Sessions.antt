@@ -88,21 +88,21 @@ IsBegunTo mode stop old new done =
     (λ script. HasBegunTo mode (run_of stop old.stands script) done new.stands)
 
 -- the reader broke: of what it gave, each statement that a `;` ends was run
-abbrev pub IsBrokenOff : Mode → Bool → Seen → Seen → ℕ → Type 0
-IsBrokenOff mode stop old new done =
+abbrev pub IsBegunUntilBroken : Mode → Bool → Seen → Seen → ℕ → Type 0
+IsBegunUntilBroken mode stop old new done =
     IsTrue new.is_reader_broken
     × OfBroken done old.left new.left
     (λ script. IsUnderWay mode (run_of stop old.stands script) done new.stands.taken)
 
 -- the reader gave more than a script may have: the first `done` statements were run
-abbrev pub IsTooLong : Mode → Bool → Seen → Seen → ℕ → Type 0
-IsTooLong mode stop old new done =
+abbrev pub IsBegunOfTooMuch : Mode → Bool → Seen → Seen → ℕ → Type 0
+IsBegunOfTooMuch mode stop old new done =
     OfTooMuch script_limit done old.left new.left
     (λ script. IsUnderWay mode (run_of stop old.stands script) done new.stands.taken)
 
 -- the writer broke: what it took is cut
-abbrev pub IsCut : Mode → Bool → Seen → Seen → ℕ → Type 0
-IsCut mode stop old new done =
+abbrev pub IsBegunCut : Mode → Bool → Seen → Seen → ℕ → Type 0
+IsBegunCut mode stop old new done =
     IsTrue new.is_writer_broken
     × OfFront done old.left new.left
     (λ script. HasBegunCut mode (run_of stop old.stands script) done new.stands.taken)
@@ -118,9 +118,9 @@ pub record ScriptPromise (mode : Mode) (stop : Bool) (old new : Seen)
   pub whole : OnOk result (StaysWhole old.is_reader_broken new.is_reader_broken
       × StaysWhole old.is_writer_broken new.is_writer_broken)
   pub memory : IfErr result (IfMemory (IsBegunTo mode stop old new))
-  pub read : IfErr result (IfRead (IsBrokenOff mode stop old new))
-  pub too_long : IfErr result (IfReadLimit (IsTooLong mode stop old new))
-  pub write : IfErr result (IfWrite (IsCut mode stop old new))
+  pub read : IfErr result (IfRead (IsBegunUntilBroken mode stop old new))
+  pub too_long : IfErr result (IfReadLimit (IsBegunOfTooMuch mode stop old new))
+  pub write : IfErr result (IfWrite (IsBegunCut mode stop old new))
 
 -- the status that the program ends with, and why the script was not run to its end
 abbrev pub status_in : Result Report RunFault → ℕ
