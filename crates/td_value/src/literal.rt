@@ -42,7 +42,7 @@ fn put_field_name(out: &mut String, later: bool, name: &Name) -> Result<(), Allo
 {
     put_comma(out, later)?;
     out.push_str(name.as_str())?;
-    out.push_str(" ")
+    out.push(' ')
 }
 
 /// Puts the type of a relation, and opens its tuples.
@@ -107,7 +107,7 @@ fn write_entries(names: &[Name], values: &[Value], out: &mut String) -> Result<(
         later = true;
         place += 1;
     }
-    out.push_str("}")
+    out.push('}')
 }
 
 #[cycle(write)]
