@@ -1,12 +1,14 @@
 -- What a cutter keeps is of the tokens of what it holds.
-use Rattle.std.proofs.Common.{◌≡◌, ℕ, ◌+◌, ◌-◌, ◌<◌, ◌≤◌, ◌^◌, List, [], ◌∷◌, ◌++◌, length, take, drop, refl, sym, ap, ◌∙◌, subst, arith, Bool, true, false, Some, None, append-nil, length-append}
+use Rattle.std.proofs.Common.{◌≡◌, ℕ, ◌+◌, ◌-◌, ◌<◌, ◌≤◌, ◌^◌, List, [], ◌∷◌, ◌++◌, length, take, drop, refl, sym, ap, ◌∙◌, subst, arith, Bool, true, false, Some, None, append-nil, drop-drop, length-append}
 use Rattle.std.specs.List.{list_any}
+use Rattle.std.specs.Prelude.{◌==◌}
 use Rattle.std.proofs.lemmas.List.{take_at}
 use Rattle.td_tree.specs.model.Division.{up_to}
-use Rattle.td_tree.specs.model.Statements.{Held, PlacedToken, behind, end_of, ends, first_statement, statement_or_rest, tokens}
+use Rattle.td_tree.specs.model.Statements.{Held, PlacedToken, behind, ends, first_statement, statement_or_rest, tokens}
 use Rattle.td_scan.specs.declared.reading.Reading.{Reading}
-use Rattle.td_scan.specs.code.Progress.{GoesOn, IsBegun, IsFirstStatement, Keeps, is_bad_token, unread}
+use Rattle.td_scan.specs.code.Progress.{GoesOn, IsBegun, IsFirstStatement, IsHeld, IsWithoutEnd, Keeps, is_bad_token, unread}
 use Rattle.td_scan.proofs.Ends.{found_more, none_both}
+use Rattle.td_scan.proofs.NoEnds.{drop_more, without_more}
 use Rattle.td_scan.proofs.ReadLaws.{goes_more, goes_nowhere, goes_then, none_begun}
 use Rattle.td_scan.proofs.TakenLaws.{behind_first}
 
@@ -77,11 +79,22 @@ module _ (bytes : List ℕ) (at : ℕ) (r : Reading) (k : Keeps bytes at r) wher
   pub fed_whole : (more : List ℕ) → at + length (bytes ++ more) < 2 ^ 64 → Keeps (bytes ++ more) at r
   fed_whole more room = record { room = room; read = goes_more (unread at) r bytes more k.read }
 
+  pub unended_more : (more : List ℕ) → IsWithoutEnd r.begun rest → list_any (λ b. b == 59) more ≡ false → IsWithoutEnd r.begun (drop (r.start - at) (bytes ++ more))
+  unended_more more w none = subst (IsWithoutEnd r.begun) (sym (drop_more (r.start - at) bytes more within)) (without_more r.begun rest more k.read.begun.within w none)
+
   pub begun_in : (more : List ℕ) → IsBegun (drop (r.start - at) (bytes ++ more)) r.begun
   begun_in more = (goes_more (unread at) r bytes more k.read).begun
 
   pub fed : (more : List ℕ) (new : Reading) → at + length (bytes ++ more) < 2 ^ 64 → r.is_whole ≡ false → GoesOn r new (drop (r.start - at) (bytes ++ more)) → Keeps (bytes ++ more) at new
   fed more new room unended read = record { room = room; read = goes_then (unread at) r new (bytes ++ more) unended (goes_more (unread at) r bytes more k.read) read }
+
+  pub held_on : (more : List ℕ) (new : Reading) → at + length (bytes ++ more) < 2 ^ 64 → r.is_whole ≡ false → GoesOn r new (drop (r.start - at) (bytes ++ more)) → (may_end : Bool)
+      → (may_end ≡ false → IsWithoutEnd new.begun (drop (new.start - r.start) (drop (r.start - at) (bytes ++ more)))) → IsHeld (bytes ++ more) at new may_end
+  held_on more new room unended read may_end none = record {
+    keeps = fed more new room unended read;
+    none = λ e. subst (IsWithoutEnd new.begun)
+        (drop-drop (new.start - r.start) (r.start - at) (bytes ++ more) ∙ ap (λ n. drop n (bytes ++ more)) (let n : (r.start - at) + (new.start - r.start) ≡ new.start - at = omega (arith, from, read.passes.from) in n)) (none e);
+  }
 
 -- nothing is kept yet
 pub keeps_none : (bytes : List ℕ) (at : ℕ) → at + length bytes < 2 ^ 64 → Keeps bytes at (unread at)
@@ -89,3 +102,10 @@ keeps_none bytes at room = record { room = room; read = goes_nowhere (unread at)
 
 pub keeps_new : (bytes : List ℕ) (at : ℕ) (new : Reading) → at + length bytes < 2 ^ 64 → GoesOn (unread at) new bytes → Keeps bytes at new
 keeps_new bytes at new room read = record { room = room; read = read }
+
+-- bytes of which nothing was read, and whether a `;` stands in them
+pub held_unread : (bytes : List ℕ) (at : ℕ) → at + length bytes < 2 ^ 64 → (may_end : Bool) → may_end ≡ list_any (λ b. b == 59) bytes → IsHeld bytes at (unread at) may_end
+held_unread bytes at room may_end is = record {
+  keeps = keeps_none bytes at room;
+  none = λ e. record { other = tt; none = ap (λ n. list_any (λ b. b == 59) (drop n bytes)) (let none : at - at ≡ 0 = omega arith in none) ∙ sym is ∙ e };
+}

@@ -22,7 +22,7 @@ use Rattle.td_tree.proofs.law_lemmas.KindLaws.{as_spelled}
 use Rattle.td_tree.proofs.code_lemmas.StableBytes.{cuts}
 use Rattle.td_tree.proofs.law_lemmas.StatementLaws.{is_end_of}
 use Rattle.td_scan.specs.code.Fronts.{end_from, first_end}
-use Rattle.td_scan.specs.code.Progress.{IsBegun, is_end_piece}
+use Rattle.td_scan.specs.code.Progress.{IsBegun, IsWithoutEnd, is_end_piece, read_of}
 use Rattle.td_scan.specs.declared.piece.First.{First}
 use Rattle.td_scan.proofs.FirstLaws.{first_within, no_bytes, tokens_of_first}
 
@@ -192,3 +192,25 @@ no_end_behind bs f begun other none at =
     let back : drop (g.0 - f.length) (drop f.length bs) ≡ drop g.0 bs = drop-drop (g.0 - f.length) f.length bs ∙ ap (λ n. drop n bs) (let n : f.length + (g.0 - f.length) ≡ g.0 = omega (arith, past) in n) in
     none_behind bs at (omega (arith, begun.some, begun.within)) (ap (λ (e : ℕ × Piece). is_end_piece e.1) (sym same) ∙ end_is_other f.length f.piece rest other)
     (no_end_in (drop g.0 bs) (ap (list_any (λ b. b == 59)) (sym back) ∙ none_dropped (g.0 - f.length) (drop f.length bs) none) (at + g.0))
+
+-- ---- what is left of bytes of whose first piece so much was read
+
+pub no_end_left : (bs : List ℕ) (begun : Option First) → IsBegun bs begun → IsWithoutEnd begun bs → (at : ℕ) → up_to ends (tokens at bs) ≡ None
+no_end_left bs None begun w at = no_end_in bs w.none at
+no_end_left bs (Some f) begun w at = no_end_behind bs f begun w.other w.none at
+
+none_joined : (xs ys : List ℕ) → has_end xs ≡ false → has_end ys ≡ false → has_end (xs ++ ys) ≡ false
+none_joined [] ys p q = q
+none_joined (b ∷ xs) ys p q = let w = neither (b == 59) (has_end xs) p in ap (λ t. t || has_end (xs ++ ys)) w.0 ∙ none_joined xs ys w.1 q
+
+pub drop_more : (n : ℕ) (xs ys : List ℕ) → n ≤ length xs → drop n (xs ++ ys) ≡ drop n xs ++ ys
+drop_more zero xs ys l = refl
+drop_more (suc n) [] ys l = absurd (omega (arith, l))
+drop_more (suc n) (x ∷ xs) ys l = drop_more n xs ys (omega (arith, l))
+
+-- more bytes that are no `;` either
+pub without_more : (begun : Option First) (bs more : List ℕ) → read_of begun ≤ length bs → IsWithoutEnd begun bs → list_any (λ b. b == 59) more ≡ false → IsWithoutEnd begun (bs ++ more)
+without_more begun bs more l w none = record {
+  other = w.other;
+  none = ap has_end (drop_more (read_of begun) bs more l) ∙ none_joined (drop (read_of begun) bs) more w.none none;
+}

@@ -1,5 +1,5 @@
 -- Tokens that are read piece by piece, whatever follows.
-use Rattle.std.proofs.Common.{◌≡◌, ◌⊎◌, ℕ, ◌+◌, ◌-◌, ◌<◌, ◌≤◌, List, [], ◌∷◌, ◌++◌, length, take, drop, refl, sym, ap, ◌∙◌, subst, arith, Bool, true, false, Option, Some, None, append_assoc, append-nil, length-append, drop-drop, inl, inr, ⊎_elim}
+use Rattle.std.proofs.Common.{◌≡◌, ℕ, ◌+◌, ◌-◌, ◌<◌, ◌≤◌, List, [], ◌∷◌, ◌++◌, length, take, drop, refl, sym, ap, ◌∙◌, subst, arith, Bool, true, false, Option, Some, None, append_assoc, append-nil, length-append, drop-drop}
 use Rattle.std.specs.List.{list_any}
 use Rattle.std.specs.Prelude.{◌||◌, if◌then◌else◌, option_map}
 use Rattle.std.proofs.lemmas.List.{drop-append-le, length-drop, length-take, take-append-le}
@@ -180,19 +180,6 @@ goes_nowhere r bs unended begun = record {
   unended = λ e. refl;
   whole = λ e. absurd (wrong r.is_whole unended e);
   begun = subst (λ n. IsBegun (drop n bs) r.begun) (let n : 0 ≡ r.start - r.start = omega arith in n) begun;
-}
-
--- more of a piece is read
-pub goes_within : (r : Reading) (begun : Option First) (bs : List ℕ) → r.is_whole ≡ false → IsBegun bs begun
-    → GoesOn r (record { count = r.count; is_bad = r.is_bad; is_whole = r.is_whole; start = r.start; begun = begun }) bs
-goes_within r begun bs unended is_begun = record {
-  passed = [];
-  passes = passes_nothing r.start bs;
-  count = omega arith;
-  bad = or_none r.is_bad;
-  unended = λ e. refl;
-  whole = λ e. absurd (wrong r.is_whole unended e);
-  begun = subst (λ n. IsBegun (drop n bs) begun) (let n : 0 ≡ r.start - r.start = omega arith in n) is_begun;
 }
 
 both_bad : (a b c : Bool) (ts us : List PlacedToken) → b ≡ (a || list_any is_bad_token ts) → c ≡ (b || list_any is_bad_token us) → c ≡ (a || list_any is_bad_token (ts ++ us))

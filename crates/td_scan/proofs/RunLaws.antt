@@ -1,5 +1,5 @@
 -- Runs of bytes that leave a piece as it is.
-use Rattle.std.proofs.Common.{◌≡◌, ℕ, ◌+◌, ◌<◌, ◌≤◌, zero, suc, List, [], ◌∷◌, ◌++◌, length, take, drop, drop-drop, length-drop, refl, sym, ap, ◌∙◌, arith, Bool, true, false, Option, Some, None, if◌then◌else◌}
+use Rattle.std.proofs.Common.{◌≡◌, ℕ, ◌+◌, ◌<◌, ◌≤◌, zero, suc, List, [], ◌∷◌, ◌++◌, length, take, drop, refl, sym, ap, ◌∙◌, arith, Bool, true, false, Option, Some, None, if◌then◌else◌}
 use Rattle.std.specs.Prelude.{◌==◌, ◌||◌, ◌&&◌, find, nat_eq, nat_lt, not, slice_index}
 use Rattle.std.proofs.lemmas.Bool.Decides.{nat_tests}
 use Rattle.std.specs.Char.{is_ascii_alphabetic, is_ascii_alphanumeric, is_ascii_digit, to_ascii_lowercase}
@@ -44,17 +44,6 @@ whole_first bs f begun none =
       some = begun.some;
       within = begun.within;
       same = λ later. sym (begun.same later) ∙ whole f.piece none f.length (symbols (drop f.length bs ++ later));
-    }
-
--- a piece goes on over a run that leaves it as it is
-pub begun_on : (bs : List ℕ) (f : First) (run : ℕ) → IsBegun bs (Some f) → run ≤ length (drop f.length bs)
-    → ((at : ℕ) (later : List ℕ) → end_from at f.piece (symbols (drop f.length bs ++ later)) ≡ end_from (at + run) f.piece (symbols (drop run (drop f.length bs) ++ later)))
-    → IsBegun bs (Some (record { length = f.length + run; piece = f.piece }))
-begun_on bs f run begun within same =
-    record {
-      some = omega (arith, begun.some);
-      within = omega (arith, begun.within, within, length-drop f.length bs);
-      same = λ later. ap (λ b. end_from (f.length + run) f.piece (symbols (b ++ later))) (sym (drop-drop run f.length bs)) ∙ sym (same f.length later) ∙ begun.same later;
     }
 
 -- a byte that leaves the piece as it is

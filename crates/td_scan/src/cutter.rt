@@ -10,7 +10,7 @@ ghost use Rattle.td_tree.specs.model.Statements.{first_statement};
 ghost use Rattle.td_tree.specs.model.Statements.{tokens};
 
 use crate::queue::Queue;
-use crate::reading::{Reading, bytes_from, is_end, may_end, read_on, read_through};
+use crate::reading::{Reading, bytes_from, is_end, left_may_end, read_on};
 use crate::token::{Token, first_token};
 use crate::upcoming::Upcoming;
 use std::alloc::{AllocError, Global};
@@ -86,8 +86,8 @@ pub struct WholeStatement<'a> {
     pub end: u64,
 }
 
-/// Cuts a script, which is fed in pieces of any size, into statements. A byte is read when it is
-/// fed, or, in a statement's first piece, with the next one; and a character when it is whole.
+/// Cuts a script, which is fed in pieces of any size, into statements. Bytes are read once a `;` may
+/// stand in them that ends a statement: those of a statement's first piece with the next one.
 #[derive(Drop)]
 pub struct Cutter {
     bytes: Queue<u8>,
@@ -95,17 +95,19 @@ pub struct Cutter {
     finished: bool,
     /// How far the first statement was read.
     reading: Reading,
+    /// Whether a `;` may stand in what was not read.
+    may_end: bool,
 }
 
 impl Model for Cutter {
-    ghost use Rattle.td_scan.specs.code.Progress.{Keeps};
+    ghost use Rattle.td_scan.specs.code.Progress.{IsHeld};
     ghost use Rattle.td_tree.specs.model.Statements.{Held};
 
     ghost Value = { Held };
 
     ghost view = { λ c. record { bytes = c.bytes; offset = c.offset; finished = c.finished } };
 
-    ghost invariant = { λ c. Keeps c.bytes c.offset c.reading };
+    ghost invariant = { λ c. IsHeld c.bytes c.offset c.reading c.may_end };
 }
 
 impl Cutter {
@@ -118,6 +120,7 @@ impl Cutter {
             offset: 0,
             finished: false,
             reading: Reading::unread(0),
+            may_end: false,
         }
     }
 
@@ -128,8 +131,8 @@ impl Cutter {
         self.bytes.len()
     }
 
-    /// Takes the next piece of the script. Of a statement that begins in it nothing is read yet:
-    /// most often the statement ends in it too.
+    /// Takes the next piece of the script. What has no `;` is not read yet, nor is a statement that
+    /// begins in the piece: most often the statement ends in it too.
     pub fn feed(&mut self, piece: &[u8]) -> Result<(), AllocError>
         requires unfinished { IsFalse self.old.finished }
         requires room { self.old.offset + length self.old.bytes + length piece.now < 2 ^ 64 }
@@ -140,12 +143,15 @@ impl Cutter {
         let is_first = self.bytes.len() == 0;
         self.bytes.close_up();
         self.bytes.extend(piece)?;
+        if !self.may_end && !piece.contains(&b';') {
+            return Ok(());
+        }
+        self.may_end = true;
         if !is_first && !self.reading.is_whole {
             let rest = bytes_from(self.bytes.as_slice(), self.offset, self.reading.start);
-            match read_through(&self.reading, rest) {
-                Some(first) => self.reading.begun = Some(first),
-                None => self.reading = read_on(self.reading, rest),
-            }
+            let reading = read_on(self.reading, rest);
+            self.may_end = left_may_end(self.reading, reading, rest);
+            self.reading = reading;
         }
         Ok(())
     }
@@ -164,8 +170,7 @@ impl Cutter {
         if self.finished || self.reading.is_whole {
             return false;
         }
-        let rest = bytes_from(self.bytes.as_slice(), self.offset, self.reading.start);
-        !may_end(self.reading.begun, rest)
+        !self.may_end
     }
 
     /// The tokens of the first statement.
@@ -233,5 +238,6 @@ impl Cutter {
         self.bytes.take_off((end - self.offset) as usize);
         self.offset = end;
         self.reading = Reading::unread(end);
+        self.may_end = self.bytes.as_slice().contains(&b';');
     }
 }

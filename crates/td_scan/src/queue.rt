@@ -64,12 +64,15 @@ impl<T: Copy> Queue<T> {
         Ok(())
     }
 
-    /// More items at the end.
+    /// More items at the end: often there is one.
     pub(crate) fn extend(&mut self, more: &[T]) -> Result<(), AllocError>
         ensures ok { OnOk result (self.new ≡ self.old ++ more.now) }
         ensures err { OnErr result (self.new ≡ self.old) }
     {
-        self.items.extend_from_slice(more)
+        match more {
+            [item] => self.push(*item),
+            _ => self.items.extend_from_slice(more),
+        }
     }
 
     /// Keeps so many items at the front.

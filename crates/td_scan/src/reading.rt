@@ -3,10 +3,9 @@ ghost use Rattle.std.specs.Prelude.{◌≡◌, ◌+◌, ◌-◌, ◌<◌, ◌≤
 ghost use Rattle.std.specs.Prelude.{IfErr, IfNone, IfSome, IsFalse, IsTrue, None, Some, drop, false};
 ghost use Rattle.std.specs.Prelude.{length};
 ghost use Rattle.td_scan.specs.code.Fronts.{end_from};
-ghost use Rattle.td_scan.specs.code.Progress.{GoesOn, IsBegun, IsFirst, is_bad_kind, is_end_piece};
-ghost use Rattle.td_scan.specs.code.Progress.{past_token, read_of, unread};
-ghost use Rattle.td_tree.specs.model.Division.{up_to};
-ghost use Rattle.td_tree.specs.model.Statements.{ends, is_end, tokens};
+ghost use Rattle.td_scan.specs.code.Progress.{GoesOn, IsBegun, IsFirst, IsWithoutEnd, is_bad_kind};
+ghost use Rattle.td_scan.specs.code.Progress.{is_end_piece, past_token, read_of, unread};
+ghost use Rattle.td_tree.specs.model.Statements.{is_end};
 ghost use Rattle.td_tree.specs.model.Symbols.{symbols};
 
 use crate::front::ordinary_length;
@@ -275,27 +274,6 @@ pub(crate) fn read_on(reading: Reading, bytes: &[u8]) -> Reading
     so_far
 }
 
-/// How much of the piece is read in which a reading stands, where all the bytes behind leave it as
-/// it is, as those of a long text do.
-#[inline]
-pub(crate) fn read_through(reading: &Reading, bytes: &[u8]) -> Option<First>
-    requires begun { IsBegun bytes.now reading.now.begun }
-    requires unended { reading.now.is_whole ≡ false }
-    ensures { IfSome result
-        (λ first. GoesOn reading.now (record reading.now { begun = Some first }) bytes.now) }
-{
-    let begun = reading.begun?;
-    let (_, rest) = bytes.split_at(begun.length);
-    let run = run_length(begun.piece, rest);
-    if run < rest.len() {
-        return None;
-    }
-    Some(First {
-        length: begun.length + run,
-        piece: begun.piece,
-    })
-}
-
 /// Whether the piece is a `;`.
 fn is_end_piece(piece: Piece) -> bool
     ensures { result ≡ is_end_piece piece }
@@ -304,13 +282,22 @@ fn is_end_piece(piece: Piece) -> bool
 }
 
 /// Whether a `;` may stand in the bytes, of whose first piece so much was read.
-pub(crate) fn may_end(begun: Option<First>, bytes: &[u8]) -> bool
+fn may_end(begun: Option<First>, bytes: &[u8]) -> bool
     requires { IsBegun bytes.now begun }
-    ensures { IsFalse result → (at : ℕ) → up_to ends (tokens at bytes.now) ≡ None }
+    ensures { IsFalse result → IsWithoutEnd begun bytes.now }
 {
     let Some(first) = begun else {
         return bytes.contains(&b';');
     };
     let (_, rest) = bytes.split_at(first.length);
     is_end_piece(first.piece) || rest.contains(&b';')
+}
+
+/// Whether a `;` may stand in what a reading leaves of bytes over which it went on.
+pub(crate) fn left_may_end(old: Reading, new: Reading, bytes: &[u8]) -> bool
+    requires { GoesOn old new bytes.now }
+    ensures { IsFalse result
+        → IsWithoutEnd new.begun (drop (new.start - old.start) bytes.now) }
+{
+    may_end(new.begun, bytes_from(bytes, old.start, new.start))
 }

@@ -1,5 +1,5 @@
 -- How far a cutter has read the first statement, and what it found of it.
-use Rattle.std.specs.Prelude.{◌≡◌, ◌+◌, ◌-◌, ◌<◌, ◌≤◌, ◌^◌, ◌∷◌, ◌++◌, ◌||◌, [], ℕ, Bool, IfSome, List}
+use Rattle.std.specs.Prelude.{◌≡◌, ◌==◌, ◌+◌, ◌-◌, ◌<◌, ◌≤◌, ◌^◌, ◌∷◌, ◌++◌, ◌||◌, [], ℕ, Bool, IfSome, List}
 use Rattle.std.specs.Prelude.{None, Option, Some, drop, false, if◌then◌else◌, length, take, true}
 use Rattle.std.specs.List.{list_any}
 use Rattle.td_scan.specs.declared.front.FirstToken.{FirstToken}
@@ -148,6 +148,16 @@ past_token r kind start =
 pub record Keeps (bytes : List ℕ) (at : ℕ) (r : Reading) : Type 0 where
   pub room : at + length bytes < 2 ^ 64
   pub read : GoesOn (unread at) r bytes
+
+-- no `;` stands in the bytes behind so much of their first piece, nor is this one
+pub record IsWithoutEnd (begun : Option First) (bytes : List ℕ) : Type 0 where
+  pub other : IfSome begun (λ f. is_end_piece f.piece ≡ false)
+  pub none : list_any (λ b. b == 59) (drop (read_of begun) bytes) ≡ false
+
+-- so far the first statement was read, and a `;` stands behind that where it may
+pub record IsHeld (bytes : List ℕ) (at : ℕ) (r : Reading) (may_end : Bool) : Type 0 where
+  pub keeps : Keeps bytes at r
+  pub none : may_end ≡ false → IsWithoutEnd r.begun (drop (r.start - at) bytes)
 
 -- ---- a statement that is whole
 

@@ -1,6 +1,5 @@
-use Rattle.std.proofs.Common.{◌∙◌, ◌++◌, [], ap, refl}
-use Rattle.td_tree.specs.model.Division.{up_to}
-use Rattle.td_tree.specs.model.Statements.{statement_or_rest, ends, tokens}
+use Rattle.std.proofs.Common.{◌∙◌, [], ap, refl}
+use Rattle.td_tree.specs.model.Statements.{tokens}
 use Rattle.td_scan.proofs.ScanLaws.{gathered, gathers}
 use Rattle.td_scan.proofs.cutter.statement_of.Goals as goal
 

@@ -1,7 +1,6 @@
-use Rattle.std.proofs.Common.{◌≡◌, ◌∙◌, ◌+◌, ◌-◌, ◌≤◌, ◌++◌, ℕ, List, ap, arith, drop, drop-drop, length, refl, subst, sym}
-use Rattle.td_tree.specs.model.Statements.{tokens}
-use Rattle.td_scan.specs.code.Progress.{GoesOn, IsOrdinary}
-use Rattle.td_scan.proofs.ReadLaws.{goes_blank, goes_nowhere, goes_told, none_begun}
+use Rattle.std.proofs.Common.{◌≡◌, ◌∙◌, ◌+◌, ◌-◌, ap, arith, drop, drop-drop, length, subst}
+use Rattle.td_scan.specs.code.Progress.{IsOrdinary}
+use Rattle.td_scan.proofs.ReadLaws.{goes_told}
 use Rattle.td_scan.proofs.reading.past_ordinary.Goals as goal
 
 pub loop-length-preserved : goal.loop-length-preserved

@@ -1,5 +1,5 @@
 use Rattle.std.proofs.Common.{◌≡◌, ◌+◌, ◌-◌, ◌≤◌, drop, length}
-use Rattle.td_scan.specs.code.Progress.{GoesOn, IsBegun}
+use Rattle.td_scan.specs.code.Progress.{GoesOn}
 use Rattle.td_scan.proofs.reading.read_on.Given as goal
 
 abbrev pub invariant-loop-so_far : goal.invariant-loop-so_far

@@ -1,4 +1,4 @@
-use Rattle.std.proofs.Common.{◌≡◌, ◌∙◌, ◌+◌, ◌++◌, ℕ, List, ap, arith, drop, length, sym}
+use Rattle.std.proofs.Common.{◌≡◌, ◌∙◌, ◌+◌, ◌++◌, ℕ, List, ap, arith, drop, sym}
 use Rattle.td_tree.specs.model.Statements.{tokens}
 use Rattle.td_scan.proofs.FirstLaws.{no_bytes}
 use Rattle.td_scan.proofs.ReadLaws.{blanks_here, next_is}

@@ -8,7 +8,7 @@ use Rattle.td_scan.proofs.cutter.Cutter.end.Goals as goal
 pub returns-then-self : goal.returns-then-self
 returns-then-self c =
     let s = c.self.inside in
-    ended s.bytes s.offset s.reading c.self.invariant c.if-self.true s.finished ∙ ap behind c.self.view_is
+    ended s.bytes s.offset s.reading c.self.invariant.keeps c.if-self.true s.finished ∙ ap behind c.self.view_is
 
 pub returns : goal.returns
 returns c =

@@ -1,4 +1,4 @@
-use Rattle.std.proofs.Common.{◌≡◌, ◌∙◌, ap, sym}
+use Rattle.std.proofs.Common.{◌∙◌, ap, sym}
 use Rattle.std.proofs.lemmas.Result.{IfOk-weaker}
 use Rattle.td_tree.specs.model.Division.{up_to}
 use Rattle.td_tree.specs.model.Statements.{Held, statement_or_rest, ends, first_statement, tokens}

@@ -1,7 +1,9 @@
-use Rattle.std.proofs.Common.{◌≡◌, ◌∙◌, ◌+◌, ◌<◌, ◌^◌, ◌-◌, ap, arith, drop, length, length-drop, subst, sym}
-use Rattle.td_tree.specs.model.Statements.{Held, behind}
-use Rattle.td_scan.specs.code.Progress.{Keeps}
-use Rattle.td_scan.proofs.HeldReads.{keeps_none}
+use Rattle.std.specs.List.{list_any}
+use Rattle.std.specs.Prelude.{◌==◌}
+use Rattle.std.proofs.Common.{◌∙◌, ◌+◌, ◌<◌, ◌^◌, ◌-◌, ap, arith, length, length-drop, subst, sym}
+use Rattle.td_tree.specs.model.Statements.{Held}
+use Rattle.td_scan.specs.code.Progress.{IsHeld}
+use Rattle.td_scan.proofs.HeldReads.{held_unread}
 use Rattle.td_scan.proofs.TakenLaws.{first_within}
 use Rattle.td_scan.proofs.cutter.Cutter.take_to.Goals as goal
 
@@ -18,5 +20,6 @@ invariant_of-self c =
     let offset = ap (λ (h : Held). h.offset) c.self.view_is in
     let w = first_within c.args.self.now in
     let room : c.args.end + length c.take_off.new.self < 2 ^ 64 =
-    omega (arith, c.self.invariant.room, ap length c.take_off.ensures, length-drop (c.args.end - s.offset) s.bytes, w.stop, c.requires, offset) in
-    subst (Keeps c.take_off.new.self c.args.end) (sym c.unread-self-inside.ensures) (keeps_none c.take_off.new.self c.args.end room)
+    omega (arith, c.self.invariant.keeps.room, ap length c.take_off.ensures, length-drop (c.args.end - s.offset) s.bytes, w.stop, c.requires, offset) in
+    subst (λ r. IsHeld c.take_off.new.self c.args.end r c.contains-self-inside.result) (sym c.unread-self-inside.ensures)
+    (held_unread c.take_off.new.self c.args.end room c.contains-self-inside.result (c.contains-self-inside.ensures.value ∙ ap (list_any (λ b. b == 59)) c.as_slice.ensures))

@@ -1,4 +1,4 @@
-use Rattle.std.proofs.Common.{◌≡◌, ◌∙◌, Some, ap, arith}
+use Rattle.std.proofs.Common.{◌∙◌, ap, arith}
 use Rattle.td_tree.specs.model.Pieces.{kind_of}
 use Rattle.td_tree.specs.model.Symbols.{symbols}
 use Rattle.td_scan.proofs.ReadLaws.{next_said}
