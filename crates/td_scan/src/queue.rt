@@ -64,11 +64,14 @@ impl<T: Copy> Queue<T> {
         Ok(())
     }
 
-    /// More items at the end.
+    /// More items at the end, of which there may be one alone.
     pub(crate) fn extend(&mut self, more: &[T]) -> Result<(), AllocError>
         ensures ok { OnOk result (self.new ≡ self.old ++ more.now) }
         ensures err { OnErr result (self.new ≡ self.old) }
     {
+        if let [item] = more {
+            return self.push(*item);
+        }
         self.items.extend_from_slice(more)
     }
 
