@@ -1,16 +1,16 @@
 -- Where a sign ends an expression, its operand is all of it; a tuple at the front is an operand.
-use Rattle.std.proofs.Common.{◌≡◌, ℕ, suc, true, List, ◌∷◌, Some, refl, arith}
+use Rattle.std.proofs.Common.{◌≡◌, ◌∙◌, ℕ, suc, true, List, ◌∷◌, Some, ap, refl, arith}
 use Rattle.td_tree.specs.declared.keyword.Keyword.TheVariants as k
 use Rattle.td_tree.specs.declared.operator.Level.{Level}
 use Rattle.td_tree.specs.declared.operator.Level.TheVariants as levels
 use Rattle.td_tree.specs.declared.token.Sign.TheVariants as signs
 use Rattle.td_tree.specs.model.Lexemes.{Lexeme, keyword, sign}
 use Rattle.td_tree.specs.model.Trees.{Tree}
-use Rattle.td_parse.specs.code.Reading.{Read, binding, postfix_expression, postfixes, unary_expression}
+use Rattle.td_parse.specs.code.Reading.{Read, binding, postfix_expression, postfixes, primary, primary_of_word, tuple, unary_expression}
 use Rattle.td_parse.specs.code.ReadingOperators.{extraction_at, postfix_at, prefix_at}
 use Rattle.td_parse.specs.code.ReadingSteps.{expect}
-use Rattle.td_parse.specs.code.Lone.{end_at, tuple_at}
-use Rattle.td_parse.specs.code.Walking.{any_infix, infix_expression, not_at, walk, walk_from}
+use Rattle.td_parse.specs.code.Lone.{behind_tuple, end_at}
+use Rattle.td_parse.specs.code.Walking.{any_infix, infix_expression, not_at, tuple_operand, tuple_parts, walk, walk_from}
 use Rattle.td_parse.proofs.Walks.{no_infix, restriction_walked, walk_ends}
 
 module _ (inner : Level → List Lexeme → Read) (depth : ℕ) where
@@ -32,7 +32,13 @@ module _ (inner : Level → List Lexeme → Read) (depth : ℕ) where
   ends_between least n most t _ e = absurd cc
 
   -- an expression that begins with a tuple
-  pub tuple_binding : (ts : List Lexeme) → tuple_at ts ≡ true → binding inner depth ts ≡ walk_from inner depth levels.Restriction levels.Multiplicative (postfix_expression inner depth ts)
-  unfolding tuple_at expect binding infix_expression not_at unary_expression prefix_at extraction_at
-  tuple_binding (keyword k.Tuple ∷ (sign signs.OpenBrace ∷ ts)) e = restriction_walked inner depth (keyword k.Tuple ∷ (sign signs.OpenBrace ∷ ts))
-  tuple_binding _ e = absurd cc
+  tuple_walked : (ts : List Lexeme) → binding inner depth (keyword k.Tuple ∷ (sign signs.OpenBrace ∷ ts)) ≡ walk_from inner depth levels.Restriction levels.Multiplicative (tuple_operand inner depth ts)
+  unfolding expect binding infix_expression not_at unary_expression prefix_at extraction_at postfix_expression primary primary_of_word tuple tuple_operand tuple_parts
+  tuple_walked ts = restriction_walked inner depth (keyword k.Tuple ∷ (sign signs.OpenBrace ∷ ts))
+
+  pub tuple_binding : (ts after : List Lexeme) → behind_tuple ts ≡ Some after → binding inner depth ts ≡ walk_from inner depth levels.Restriction levels.Multiplicative (tuple_operand inner depth after)
+  unfolding behind_tuple expect
+  tuple_binding (keyword k.Tuple ∷ (sign signs.OpenBrace ∷ ts)) after e =
+      let same : ts ≡ after = cc in
+      tuple_walked ts ∙ ap (λ left. walk_from inner depth levels.Restriction levels.Multiplicative (tuple_operand inner depth left)) same
+  tuple_binding _ after e = absurd cc

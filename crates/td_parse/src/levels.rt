@@ -5,6 +5,7 @@ ghost use Rattle.td_parse.specs.code.Parsing.{Moves};
 ghost use Rattle.td_parse.specs.code.Reading as reading;
 ghost use Rattle.td_parse.specs.code.Reading.{read};
 ghost use Rattle.td_parse.specs.code.Walking.{tightness, walk, walk_from, infix_expression};
+ghost use Rattle.td_parse.specs.code.Walking.{tuple_operand, tuple_parts};
 ghost use Rattle.td_tree.specs.code.TreeViews.{tree_view};
 
 use crate::cursor::{Cursor, SYNTAX};
@@ -128,16 +129,26 @@ impl<F: Fn(Global, u16, Level, &mut Cursor<'_, '_>) -> Result<Found, Fault>> Gra
         self.walk(level, Level::Multiplicative, first, tokens)
     }
 
-    /// An expression that begins with a primary one, which most often ends it.
-    #[tactic(auto, unfolding(crate::specs::code::Reading::postfix_expression), using(crate::proofs::LoneTuples::ends_behind, crate::proofs::LoneTuples::ends_between))]
-    fn operand_first(&self, tokens: &mut Cursor<'_, '_>) -> Result<Found, Fault>
+    /// After `TUPLE {`: the tuple.
+    #[tactic(auto, unfolding(crate::specs::code::Walking::tuple_parts))]
+    fn tuple_parts(&self, tokens: &mut Cursor<'_, '_>) -> Result<Found, Fault>
+        requires { Nests self.now.depth (F.pre self.now.inner) (F.post self.now.inner) }
+        ensures { Moves tree_view result tokens.new
+            (tuple_parts (read self.now.depth) self.now.depth tokens.old) }
+    {
+        Ok(Found::tuple(self.parts_to_brace(tokens)?))
+    }
+
+    /// After `TUPLE {`: an expression that begins with the tuple, which most often ends it.
+    #[tactic(auto, unfolding(crate::specs::code::Walking::tuple_operand), using(crate::proofs::LoneTuples::ends_behind, crate::proofs::LoneTuples::ends_between))]
+    fn tuple_first(&self, tokens: &mut Cursor<'_, '_>) -> Result<Found, Fault>
         requires { Nests self.now.depth (F.pre self.now.inner) (F.post self.now.inner) }
         ensures { Moves tree_view result tokens.new
             (walk_from (read self.now.depth) self.now.depth Level.Restriction
             Level.Multiplicative
-            (reading.postfix_expression (read self.now.depth) self.now.depth tokens.old)) }
+            (tuple_operand (read self.now.depth) self.now.depth tokens.old)) }
     {
-        let first = self.primary(tokens)?;
+        let first = self.tuple_parts(tokens)?;
         if ends(tokens.look()) {
             return Ok(first);
         }
@@ -166,7 +177,7 @@ impl<F: Fn(Global, u16, Level, &mut Cursor<'_, '_>) -> Result<Found, Fault>> Gra
             (reading.binding (read self.now.depth) self.now.depth tokens.old) }
     {
         if opens_tuple(tokens) {
-            return self.operand_first(tokens);
+            return self.tuple_first(tokens);
         }
         if tokens.keyword(Keyword::With) {
             return self.binding_expression(tokens);

@@ -36,7 +36,7 @@ impl<F: Fn(Global, u16, Level, &mut Cursor<'_, '_>) -> Result<Found, Fault>> Gra
         for _turn in 0..limit {
             items.push(self.expression(tokens)?)?;
             if !tokens.sign(Sign::Comma) {
-                return Ok(items);
+                return Ok(items.complete());
             }
         }
         Err(SYNTAX)

@@ -1,7 +1,7 @@
 //! Literals and tuples that are expressions by themselves.
 ghost use Rattle.std.specs.Prelude.{◌≡◌, ℕ, List, IfOk, IsFalse, None, Some, option_map};
 ghost use Rattle.td_parse.specs.code.Lone as lone;
-ghost use Rattle.td_parse.specs.code.Parsing.{Tries, seen_as};
+ghost use Rattle.td_parse.specs.code.Parsing.{Eats, Tries, seen_as};
 ghost use Rattle.td_tree.specs.model.Numbers.{decimal_value};
 ghost use Rattle.td_tree.specs.model.Pieces.{kind_of};
 ghost use Rattle.td_tree.specs.model.Symbols.{symbols};
@@ -95,14 +95,18 @@ pub fn lone_literal(
     Ok(Some(literal))
 }
 
-/// Whether `TUPLE {` comes next.
-#[tactic(auto, unfolding(crate::specs::code::Lone::tuple_at))]
-pub fn opens_tuple(tokens: &Cursor<'_, '_>) -> bool
-    ensures { result ≡ lone.tuple_at tokens.now }
+/// Takes `TUPLE {`, if it comes next.
+#[tactic(auto, unfolding(crate::specs::code::Lone::behind_tuple))]
+pub fn opens_tuple(tokens: &mut Cursor<'_, '_>) -> bool
+    ensures { Eats (lone.behind_tuple tokens.old) result tokens.old tokens.new }
 {
     if !tokens.look().has_keyword(Keyword::Tuple) {
         return false;
     }
     let mut ahead = tokens.ahead();
-    ahead.keyword(Keyword::Tuple) && ahead.sign(Sign::OpenBrace)
+    if !ahead.keyword(Keyword::Tuple) || !ahead.sign(Sign::OpenBrace) {
+        return false;
+    }
+    tokens.go_to(ahead);
+    true
 }

@@ -9,6 +9,9 @@ use td_tree::expression::{Expr, NamedExpr, Summary};
 use td_tree::name::Name;
 use td_tree::operator::Aggregate;
 
+/// How many expressions are so many that the room is let go that they leave over.
+const MANY: usize = 1_024;
+
 /// Expressions.
 #[derive(Drop)]
 pub struct Elements {
@@ -53,6 +56,17 @@ impl Elements {
         self.items.push(found.into_tree())?;
         self.height = height;
         Ok(())
+    }
+
+    /// The same, once no more are to come: many leave over much room, which is let go.
+    pub fn complete(self) -> Elements
+        ensures { result ≡ self }
+    {
+        let mut whole = self;
+        if whole.items.len() >= MANY {
+            whole.items.shrink_to_fit();
+        }
+        whole
     }
 }
 

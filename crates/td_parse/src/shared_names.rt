@@ -22,6 +22,8 @@ pub struct SharedNames {
     names: Vec<Name>,
     /// Where the next name is expected.
     next: usize,
+    /// Where the last one was that was looked for, as the first name of a tuple is.
+    first: usize,
 }
 
 impl SharedNames {
@@ -30,6 +32,7 @@ impl SharedNames {
         SharedNames {
             names: Vec::new(alloc),
             next: 0,
+            first: 0,
         }
     }
 
@@ -45,11 +48,8 @@ impl SharedNames {
         }
     }
 
-    /// Where the name with these bytes is, or where it would come.
+    /// Where the name with these bytes is among those that were met first, or where it would come.
     fn place_of(&self, text: &[u8]) -> usize {
-        if self.at(self.next, text).is_some() {
-            return self.next;
-        }
         for place in 0..self.names.len().min(SEARCHED) {
             if self.at(place, text).is_some() {
                 return place;
@@ -67,12 +67,13 @@ impl SharedNames {
         Ok(())
     }
 
-    /// The name that a token with these bytes is.
-    pub fn name_of(&mut self, alloc: Global, text: &[u8]) -> Result<Name, AllocError>
+    /// The name that a token with these bytes is, which does not come where it is expected.
+    fn sought(&mut self, alloc: Global, text: &[u8]) -> Result<Name, AllocError>
         requires { kind_of (symbols text.now) ≡ Some Kind.Name }
         ensures { IfOk result (λ n. n ≡ text.now) }
     {
         let place = self.place_of(text);
+        self.first = place;
         self.next = place.wrapping_add(1);
         if let Some(name) = self.at(place, text) {
             return name.try_clone();
@@ -80,5 +81,23 @@ impl SharedNames {
         let name = name_of(alloc, text)?;
         self.keep(name.try_clone()?)?;
         Ok(name)
+    }
+
+    /// The name that a token with these bytes is.
+    pub fn name_of(&mut self, alloc: Global, text: &[u8]) -> Result<Name, AllocError>
+        requires { kind_of (symbols text.now) ≡ Some Kind.Name }
+        ensures { IfOk result (λ n. n ≡ text.now) }
+    {
+        if let Some(name) = self.at(self.next, text) {
+            let name = name.try_clone();
+            self.next = self.next.wrapping_add(1);
+            return name;
+        }
+        if let Some(name) = self.at(self.first, text) {
+            let name = name.try_clone();
+            self.next = self.first.wrapping_add(1);
+            return name;
+        }
+        self.sought(alloc, text)
     }
 }

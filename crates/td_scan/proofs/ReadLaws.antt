@@ -89,6 +89,11 @@ next_said bs t next = (subst AreOfTheirKind (next.same 0) (kinds 0 bs)).0
 pub blanks_here : (bs : List ℕ) (m : ℕ) → ((at : ℕ) (later : List ℕ) → tokens at (bs ++ later) ≡ tokens (at + m) (drop m bs ++ later)) → (at : ℕ) → tokens at bs ≡ tokens (at + m) (drop m bs)
 blanks_here bs m same at = ap (tokens at) (sym (append-nil bs)) ∙ same at [] ∙ ap (tokens (at + m)) (append-nil (drop m bs))
 
+-- behind them stand the same tokens
+pub behind_blanks : (at start m : ℕ) (all bs back : List ℕ) → tokens start bs ≡ tokens at all → back ≡ drop m bs
+    → ((at : ℕ) (later : List ℕ) → tokens at (bs ++ later) ≡ tokens (at + m) (drop m bs ++ later)) → tokens (start + m) back ≡ tokens at all
+behind_blanks at start m all bs back so_far is same = ap (tokens (start + m)) is ∙ sym (blanks_here bs m same start) ∙ so_far
+
 -- ---- tokens up to a place
 
 pub passes_nothing : (at : ℕ) (bs : List ℕ) → Passes at bs [] at

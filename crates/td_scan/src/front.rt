@@ -67,6 +67,19 @@ fn whole_sign(byte: u8) -> Option<Sign>
     }
 }
 
+/// The token at the front, where it is a sign that is told at once.
+#[inline]
+pub(crate) fn sign_at_front(bytes: &[u8]) -> Option<FirstToken>
+    ensures { IfSome result (λ token. IsToken bytes.now token) }
+{
+    if bytes.is_empty() {
+        return None;
+    }
+    let sign = whole_sign(bytes[0])?;
+    let kind = Kind::Sign(sign);
+    Some(FirstToken { length: 1, kind })
+}
+
 /// The token at the front, where it is a word, a number or a sign that is told at once.
 #[inline]
 pub(crate) fn token_at_front(bytes: &[u8]) -> Option<FirstToken>
@@ -86,9 +99,7 @@ pub(crate) fn token_at_front(bytes: &[u8]) -> Option<FirstToken>
         let kind = Kind::Number;
         return Some(FirstToken { length, kind });
     }
-    let sign = whole_sign(byte)?;
-    let kind = Kind::Sign(sign);
-    Some(FirstToken { length: 1, kind })
+    sign_at_front(bytes)
 }
 
 /// How many bytes the token at the front takes, where it is a word, a number or a sign that is told

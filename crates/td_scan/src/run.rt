@@ -72,10 +72,14 @@ fn frequent_word(text: &[u8]) -> Option<Keyword> {
     }
 }
 
-/// What a word of several bytes is: the reserved words that scripts have often are told first.
+/// What a word of several bytes is: the reserved words that scripts have often are told first, and
+/// before all others that of a tuple.
 fn long_word_kind(text: &[u8]) -> Kind
     ensures { result ≡ word_kind text.now }
 {
+    if text == b"TUPLE".as_slice() {
+        return Kind::Reserved(Keyword::Tuple);
+    }
     match frequent_word(text) {
         Some(keyword) if keyword.is_spelled_by(text) => Kind::Reserved(keyword),
         _ => Kind::of_word(text),

@@ -122,8 +122,9 @@ fn first_kind(bytes: &[u8]) -> Result<FirstToken, usize>
     }
 }
 
-/// The bytes from their first token on. They begin at this offset of a script.
-pub(crate) fn to_first_token<'a>(bytes: &'a [u8], offset: u64) -> Option<Front<'a>>
+/// The bytes from their first token on, by a look at each piece.
+#[inline(never)]
+fn by_pieces<'a>(bytes: &'a [u8], offset: u64) -> Option<Front<'a>>
     requires { offset + length bytes.now < 2 ^ 64 }
     ensures same { IfSome result
         (λ f. tokens f.start f.bytes.now ≡ tokens offset bytes.now) }
@@ -139,13 +140,6 @@ pub(crate) fn to_first_token<'a>(bytes: &'a [u8], offset: u64) -> Option<Front<'
         let blanks = blank_length(bytes);
         bytes = bytes.split_at(blanks).1;
         start += blanks as u64;
-        if let Some(first) = token_at_front(bytes) {
-            return Some(Front {
-                bytes,
-                start,
-                first,
-            });
-        }
         if bytes.is_empty() {
             return None;
         }
@@ -160,6 +154,31 @@ pub(crate) fn to_first_token<'a>(bytes: &'a [u8], offset: u64) -> Option<Front<'
                 start += length as u64;
             }
         }
+    }
+}
+
+/// The bytes from their first token on. They begin at this offset of a script.
+#[inline]
+pub(crate) fn to_first_token<'a>(bytes: &'a [u8], offset: u64) -> Option<Front<'a>>
+    requires { offset + length bytes.now < 2 ^ 64 }
+    ensures same { IfSome result
+        (λ f. tokens f.start f.bytes.now ≡ tokens offset bytes.now) }
+    ensures next { IfSome result (λ f. IsNext f.bytes.now f.first) }
+    ensures place { IfSome result
+        (λ f. f.start + length f.bytes.now ≡ offset + length bytes.now) }
+    ensures within { IfSome result (λ f. length f.bytes.now ≤ length bytes.now) }
+    ensures none { IfNone result (tokens offset bytes.now ≡ []) }
+{
+    let blanks = blank_length(bytes);
+    let (_, behind) = bytes.split_at(blanks);
+    let start = offset + blanks as u64;
+    match token_at_front(behind) {
+        Some(first) => Some(Front {
+            bytes: behind,
+            start,
+            first,
+        }),
+        None => by_pieces(behind, start),
     }
 }
 

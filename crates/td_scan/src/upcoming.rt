@@ -5,7 +5,7 @@ ghost use Rattle.td_tree.specs.model.Pieces.{kind_of};
 ghost use Rattle.td_tree.specs.model.Statements.{PlacedToken, tokens};
 ghost use Rattle.td_tree.specs.model.Symbols.{symbols};
 
-use crate::front::FirstToken;
+use crate::front::{FirstToken, sign_at_front};
 use crate::token::{Front, Token, to_first_token};
 use std::marker::Model;
 use td_tree::token::Kind;
@@ -41,7 +41,8 @@ const NOTHING: FirstToken = FirstToken {
 };
 
 impl<'a> Upcoming<'a> {
-    /// So many tokens of the bytes, which begin at this offset of a script.
+    /// So many tokens of the bytes, which begin at this offset of a script. Most often a sign stands
+    /// at the front, or what is told behind blanks.
     pub(crate) fn new(bytes: &'a [u8], offset: u64, left: usize) -> Upcoming<'a>
         requires room { offset + length bytes.now < 2 ^ 64 }
         requires few { left < 2 ^ 32 }
@@ -49,6 +50,14 @@ impl<'a> Upcoming<'a> {
         ensures { result ≡ take left (tokens offset bytes.now) }
     {
         if left > 0 {
+            if let Some(first) = sign_at_front(bytes) {
+                return Upcoming {
+                    bytes,
+                    start: offset,
+                    left,
+                    first,
+                };
+            }
             if let Some(front) = to_first_token(bytes, offset) {
                 let Front {
                     bytes,

@@ -10,7 +10,7 @@ use Rattle.td_tree.specs.model.Numbers.{numeral_limit}
 use Rattle.td_tree.specs.model.Trees as tree
 use Rattle.td_tree.specs.model.Trees.{Literal}
 use Rattle.td_parse.specs.code.ReadingOperators.{with_rest}
-use Rattle.td_parse.specs.code.ReadingSteps.{either, ReadOf, expect}
+use Rattle.td_parse.specs.code.ReadingSteps.{◌>>=◌, ReadOf, expect}
 
 -- ---- what stands behind
 
@@ -47,9 +47,6 @@ lone_literal (x ∷ ts) = if end_at ts then with_rest ts (literal_of x) else Non
 
 -- ---- tuples
 
--- TUPLE and '{' are next
-unfoldable pub tuple_at : List Lexeme → Bool
-tuple_at ts =
-    either false
-    (λ after. either false (λ last. true) (expect (sign signs.OpenBrace) after))
-    (expect (keyword k.Tuple) ts)
+-- the lexemes behind TUPLE and '{', where both are next
+unfoldable pub behind_tuple : List Lexeme → Option (List Lexeme)
+behind_tuple ts = expect (keyword k.Tuple) ts >>= λ after. expect (sign signs.OpenBrace) after

@@ -8,6 +8,7 @@ use Rattle.td_tree.specs.declared.operator.Level.TheVariants as levels
 use Rattle.td_tree.specs.declared.operator.Operator.TheVariants as operators
 use Rattle.td_tree.specs.declared.operator.Prefix.TheVariants as prefixes
 use Rattle.td_tree.specs.declared.token.Sign.{Sign}
+use Rattle.td_tree.specs.declared.token.Sign.TheVariants as signs
 use Rattle.td_tree.specs.model.Grammar.{tighter}
 use Rattle.td_tree.specs.model.Lexemes.{Lexeme, keyword, sign}
 use Rattle.td_tree.specs.model.Trees as tree
@@ -15,9 +16,9 @@ use Rattle.td_tree.specs.model.Trees.{Tree}
 use Rattle.td_parse.specs.declared.operators.Infix.{Infix}
 use Rattle.td_parse.specs.declared.operators.Infix.TheVariants as infixes
 use Rattle.td_parse.specs.declared.operators.Link.TheVariants as links
-use Rattle.td_parse.specs.code.Reading.{Read, prefix_expression, fits, unary_expression}
+use Rattle.td_parse.specs.code.Reading.{Read, fits, named_from, part, postfixes, prefix_expression, unary_expression}
 use Rattle.td_parse.specs.code.ReadingOperators.{comparison_of_sign, comparison_of_word, link_level, link_of_sign, link_of_word, linked_tree, with_rest}
-use Rattle.td_parse.specs.code.ReadingSteps.{◌>>=◌, either, ReadOf, expect}
+use Rattle.td_parse.specs.code.ReadingSteps.{◌>>=◌, either, ReadOf, expect, listed_to}
 
 -- how tightly a level binds: more than each looser one
 abbrev pub tightness : Level → ℕ
@@ -110,6 +111,16 @@ module _ (inner : Level → List Lexeme → Read) (depth : ℕ) where
   abbrev pub walk_from : Level → Level → Read → Read
   walk_from level tightest first =
       first >>= λ x. walk (tightness level) (suc depth) (tightness tightest) x.0 x.1
+
+  -- after TUPLE and '{': the tuple
+  unfoldable pub tuple_parts : List Lexeme → Read
+  tuple_parts ts =
+      listed_to (sign signs.CloseBrace) (part inner depth) ts
+      >>= λ x. Some (tree.tuple (named_from x.0), x.1)
+
+  -- after TUPLE and '{': the tuple with the operators behind it
+  unfoldable pub tuple_operand : List Lexeme → Read
+  tuple_operand ts = tuple_parts ts >>= λ x. postfixes inner depth (suc depth) x.0 x.1
 
   -- an expression with operators between operands: its first operand, and then the walk
   unfoldable pub infix_expression : Level → List Lexeme → Read

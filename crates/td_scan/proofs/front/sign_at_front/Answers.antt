@@ -1,6 +1,6 @@
 use Rattle.std.proofs.Common.{◌<◌, length, rules}
 use Rattle.td_scan.proofs.FrontLaws.{sign_is}
-use Rattle.td_scan.proofs.front.token_at_front.Goals as goal
+use Rattle.td_scan.proofs.front.sign_at_front.Goals as goal
 
 pub returns : goal.returns
 returns c =
