@@ -81,17 +81,18 @@ pub fn lone_literal(
         Some(kind) if may_be_literal(kind) => {}
         _ => return Ok(None),
     }
-    let mut ahead = tokens.ahead();
-    let Some((kind, text)) = ahead.take() else {
+    let before = tokens.ahead();
+    let Some((kind, text)) = tokens.take() else {
         return Ok(None);
     };
-    if !ends(&ahead) {
+    if !ends(tokens.look()) {
+        tokens.go_to(before);
         return Ok(None);
     }
     let Some(literal) = literal_of(alloc, kind, text)? else {
+        tokens.go_to(before);
         return Ok(None);
     };
-    tokens.go_to(ahead);
     Ok(Some(literal))
 }
 
@@ -103,10 +104,10 @@ pub fn opens_tuple(tokens: &mut Cursor<'_, '_>) -> bool
     if !tokens.look().has_keyword(Keyword::Tuple) {
         return false;
     }
-    let mut ahead = tokens.ahead();
-    if !ahead.keyword(Keyword::Tuple) || !ahead.sign(Sign::OpenBrace) {
-        return false;
+    let before = tokens.ahead();
+    if tokens.keyword(Keyword::Tuple) && tokens.sign(Sign::OpenBrace) {
+        return true;
     }
-    tokens.go_to(ahead);
-    true
+    tokens.go_to(before);
+    false
 }

@@ -7,7 +7,7 @@ use Rattle.std.specs.List.{list_all}
 use Rattle.std.specs.Str.{bytes_eq, str_eq_ignore_ascii_case, str_to_ascii_lowercase}
 use Rattle.std.proofs.lemmas.Slice.Eq.{bytes_eq-Decides}
 use Rattle.td_tree.specs.declared.keyword.Keyword.{Keyword}
-use Rattle.td_tree.specs.declared.keyword.Keyword.TheVariants.{Add}
+use Rattle.td_tree.specs.declared.keyword.Keyword.TheVariants.{Add, Tuple}
 use Rattle.td_tree.specs.declared.piece.Piece.{Piece}
 use Rattle.td_tree.specs.declared.piece.Piece.TheVariants.{Bar, Blank, Word, Number, OpenText, Text, LineComment, OpenComment, StarredComment}
 use Rattle.td_tree.specs.declared.token.Kind.TheVariants as kinds
@@ -269,3 +269,11 @@ is_reserved k text spelled =
     let lower : List ℕ = str_to_ascii_lowercase text in
     let same : str_to_ascii_lowercase (word_of k) ≡ lower = (bytes_eq-Decides (str_to_ascii_lowercase (word_of k)) lower).0 spelled in
     sym (ap (λ o. word_kind_of o (begins_the text)) (ap (λ t. find (λ j. bytes_eq (str_to_ascii_lowercase (word_of j)) t) keywords) (sym same) ∙ spells_itself k))
+
+-- the reserved word of a tuple, byte by byte
+pub tuple_word : (text : List ℕ) → length text ≡ 5 → slice_index text 0 ≡ 84 → slice_index text 1 ≡ 85 → slice_index text 2 ≡ 80 → slice_index text 3 ≡ 76 → slice_index text 4 ≡ 69
+    → kinds.Reserved Tuple ≡ word_kind text
+tuple_word (a ∷ (b ∷ (c ∷ (d ∷ (e ∷ []))))) five ea eb ec ed ee =
+    let same : (a ∷ (b ∷ (c ∷ (d ∷ (e ∷ []))))) ≡ (84 ∷ (85 ∷ (80 ∷ (76 ∷ (69 ∷ []))))) = cc in
+    is_reserved Tuple (a ∷ (b ∷ (c ∷ (d ∷ (e ∷ []))))) (ap (str_eq_ignore_ascii_case (word_of Tuple)) same)
+tuple_word _ five ea eb ec ed ee = absurd cc

@@ -72,12 +72,25 @@ fn frequent_word(text: &[u8]) -> Option<Keyword> {
     }
 }
 
+/// Whether the bytes are the reserved word of a tuple in capitals.
+#[inline]
+fn spells_tuple(text: &[u8]) -> bool
+    ensures { IsTrue result → Kind.Reserved Keyword.Tuple ≡ word_kind text.now }
+{
+    if let [t, u, p, l, e] = text {
+        if *t == b'T' && *u == b'U' && *p == b'P' && *l == b'L' && *e == b'E' {
+            return true;
+        }
+    }
+    false
+}
+
 /// What a word of several bytes is: the reserved words that scripts have often are told first, and
 /// before all others that of a tuple.
 fn long_word_kind(text: &[u8]) -> Kind
     ensures { result ≡ word_kind text.now }
 {
-    if text == b"TUPLE".as_slice() {
+    if spells_tuple(text) {
         return Kind::Reserved(Keyword::Tuple);
     }
     match frequent_word(text) {
